@@ -1,0 +1,16 @@
+pub mod Grid
+pub mod TwoWords
+pub mod Shift
+pub mod Ranked
+pub mod Sums
+pub mod Patterns
+pub mod Zero
+pub mod Directed
+pub mod Mirror
+pub mod Unique
+pub mod Rounding
+pub mod Next
+pub mod Tests
+pub mod Keys
+pub mod Steps
+pub mod Bounding

@@ -1,0 +1,20 @@
+-- `is_finite` meets its contract. Assumes nothing.
+use Rattle.doubles.proofs.Tests.{is-nan, not-nan, fit, rank-bits, rank-most, finite-test, absolute-place, absolute-nan}
+use lib.Ieee.Scale.{finite}
+use mathlib.Core.Path.{_≡_, refl, sym, ap, _∙_, subst}
+use Rattle.doubles.proofs.bits.is_finite.Statement.{statement}
+use Rattle.doubles.proofs.bits.is_finite.Tie as tie
+use Rattle.doubles.proofs.bits.is_finite.Reads as reads
+use Rattle.doubles.proofs.bits.is_finite.Lts as lts
+
+returns : tie.Need-returns
+returns c = sym (ap finite (is-nan (c .before .args .x) (c .if1 .taken)))
+
+float-to-bits-result : tie.Need-float-to-bits-result
+float-to-bits-result c = not-nan (c .before .args .x) (c .if1 .left)
+
+returns-2 : tie.Need-returns-2
+returns-2 c = finite-test (c .before .args .x) (not-nan (c .before .args .x) (c .if1 .left)) (fit (c .before .args .x) (c .before .good .0 .1))
+
+pub is-finite-spec : {M : Type 1} → statement M
+is-finite-spec = tie.close (tie.spec returns float-to-bits-result returns-2)

@@ -1,0 +1,65 @@
+-- `next_up` meets its contract: each way through the code is a step of the rank. Assumes nothing.
+use Rattle.doubles.proofs.Steps.{next-nan, up-positive, up-infinity, up-minus-zero, below-bits, up-negative}
+use Rattle.doubles.proofs.Tests.{is-nan, not-nan, fit}
+use mathlib.Core.Path.{_≡_, refl, sym, ap, _∙_, subst}
+use native.Mathlib.Omega.{arith}
+use borrow.Author.Needs.{needs}
+use Rattle.doubles.proofs.neighbours.next_up.Statement.{statement}
+use Rattle.doubles.proofs.neighbours.next_up.Tie as tie
+use Rattle.doubles.proofs.neighbours.next_up.Reads as reads
+use Rattle.doubles.proofs.neighbours.next_up.Lts as lts
+use Rattle.doubles.proofs.bits.negative.Reads as negative-reads
+use Rattle.doubles.proofs.bits.positive.Reads as positive-reads
+
+returns : tie.Need-returns
+returns c = next-nan (c .before .args .x) (is-nan (c .before .args .x) (c .if1 .taken))
+
+float-to-bits-b : tie.Need-float-to-bits-b
+float-to-bits-b c = not-nan (c .before .args .x) (c .if1 .left)
+
+add-positive : tie.Need-add-positive
+add-positive c = search needs
+
+positive-requires : tie.Need-positive-requires
+positive-requires c κs = search needs
+
+positive-requires-2 : tie.Need-positive-requires-2
+positive-requires-2 c κs = search needs
+
+sub-negative : tie.Need-sub-negative
+sub-negative c = let r = below-bits (c .before .before .before .before .args .x) (not-nan (c .before .before .before .before .args .x) (c .before .before .before .if1 .left)) (fit (c .before .before .before .before .args .x) (c .before .before .before .before .good .0 .1)) (c .before .before .if2 .left) (c .before .if3 .left) (c .if4 .left) in omega arith
+
+sub-negative-2 : tie.Need-sub-negative-2
+sub-negative-2 c = let r = below-bits (c .before .before .before .before .args .x) (not-nan (c .before .before .before .before .args .x) (c .before .before .before .if1 .left)) (fit (c .before .before .before .before .args .x) (c .before .before .before .before .good .0 .1)) (c .before .before .if2 .left) (c .before .if3 .left) (c .if4 .left) in omega arith
+
+negative-requires : tie.Need-negative-requires
+negative-requires c κs = below-bits (c .before .before .before .before .args .x) (not-nan (c .before .before .before .before .args .x) (c .before .before .before .if1 .left)) (fit (c .before .before .before .before .args .x) (c .before .before .before .before .good .0 .1)) (c .before .before .if2 .left) (c .before .if3 .left) (c .if4 .left) .1
+
+returns-2 : tie.Need-returns-2
+returns-2 c = up-positive (c .before .before .before .args .x) (not-nan (c .before .before .before .args .x) (c .before .before .if1 .left)) (fit (c .before .before .before .args .x) (c .before .before .before .good .0 .1)) (c .positive .result) (c .before .if2 .taken) (c .positive .ensures)
+
+returns-3 : tie.Need-returns-3
+returns-3 c = up-infinity (c .before .before .before .args .x) (not-nan (c .before .before .before .args .x) (c .before .before .if1 .left)) (fit (c .before .before .before .args .x) (c .before .before .before .good .0 .1)) (c .if3 .taken)
+
+returns-4 : tie.Need-returns-4
+returns-4 c = up-minus-zero (c .before .before .before .before .before .args .x) (not-nan (c .before .before .before .before .before .args .x) (c .before .before .before .before .if1 .left)) (fit (c .before .before .before .before .before .args .x) (c .before .before .before .before .before .good .0 .1)) (c .positive2 .result) (c .before .if4 .taken) (c .positive2 .ensures)
+
+returns-5 : tie.Need-returns-5
+returns-5 c = up-negative (c .before .before .before .before .before .args .x) (not-nan (c .before .before .before .before .before .args .x) (c .before .before .before .before .if1 .left)) (fit (c .before .before .before .before .before .args .x) (c .before .before .before .before .before .good .0 .1)) (c .negative .result) (c .before .before .before .if2 .left) (c .before .before .if3 .left) (c .before .if4 .left) (c .negative .ensures)
+
+pub next-up-spec : {M : Type 1} → statement M
+next-up-spec =
+    tie.close
+    (tie.spec
+    returns
+    float-to-bits-b
+    add-positive
+    positive-requires
+    positive-requires-2
+    sub-negative
+    sub-negative-2
+    negative-requires
+    returns-2
+    returns-3
+    returns-4
+    returns-5)

@@ -1,0 +1,30 @@
+-- `minus` meets its contract: of the negative doubles only the one of rank 0 is a zero. Assumes nothing.
+use Rattle.doubles.proofs.Zero.{zero-plus, withZero-rank}
+use Rattle.doubles.specs.Directed.{withZero}
+use Rattle.doubles.specs.Rank.{double}
+use Prim.Native.Nat.{ℕ, _<_}
+use mathlib.Core.Bool.{Bool, true, false}
+use mathlib.Core.Path.{_≡_, refl, sym, ap, _∙_, subst}
+use native.Mathlib.Omega.{arith}
+use borrow.Author.Needs.{needs}
+use Rattle.doubles.proofs.outward.minus.Statement.{statement}
+use Rattle.doubles.proofs.outward.minus.Tie as tie
+use Rattle.doubles.proofs.outward.minus.Reads as reads
+use Rattle.doubles.proofs.outward.minus.Lts as lts
+use Rattle.doubles.proofs.bits.negative.Reads as negative-reads
+use Rattle.doubles.proofs.bits.positive.Reads as positive-reads
+
+positive-requires : tie.Need-positive-requires
+positive-requires c κs = search needs
+
+negative-requires : tie.Need-negative-requires
+negative-requires c κs = search needs
+
+returns : tie.Need-returns
+returns c = c .positive .ensures ∙ sym (ap (λ (r : ℕ). withZero false (double true r)) (c .before .if1 .taken) ∙ zero-plus true)
+
+returns-2 : tie.Need-returns-2
+returns-2 c = let r = c .before .before .args .r in let n = c .before .if1 .left in c .negative .ensures ∙ sym (withZero-rank false true r (omega arith) (c .before .before .pre))
+
+pub minus-spec : {M : Type 1} → statement M
+minus-spec = tie.close (tie.spec positive-requires negative-requires returns returns-2)

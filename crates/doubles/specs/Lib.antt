@@ -1,0 +1,4 @@
+pub mod Rank
+pub mod Directed
+pub mod Neighbours
+pub mod Compare

@@ -1,0 +1,11 @@
+pub mod Naturals
+pub mod Difference
+pub mod Ring
+pub mod Order
+pub mod Sums
+pub mod Signed
+pub mod Representable
+pub mod Values
+pub mod Compare
+pub mod Nearest
+pub mod Operations

@@ -1,0 +1,23 @@
+-- Cases of the order of two naturals, and powers of two. Assumes nothing.
+use mathlib.Core.Path.{_≡_, sym, ap, _∙_, subst}
+use mathlib.Core.Logic.{_⊎_, inl, inr}
+use mathlib.Core.Bool.{Bool, true, false, not}
+use Prim.Native.Nat.{ℕ, _+_, _-_, _^_, _≤_, _<_, _∣_}
+use native.Mathlib.Nat.{dvd-mul-left, dvd-trans}
+use native.Mathlib.Omega.{arith}
+use lib.Dec.{T, leb, leb→le, nleb→lt}
+use lib.Pow.{pow-add}
+
+pub le-or-lt : (a b : ℕ) → (a ≤ b) ⊎ (b < a)
+le-or-lt a b = go (leb a b) (leb→le a b) (nleb→lt a b)
+  where
+    go : (t : Bool) → (T t → a ≤ b) → (T (not t) → b < a) → (a ≤ b) ⊎ (b < a)
+    go true h k = inl (h tt)
+    go false h k = inr (k tt)
+
+-- a lower power of two divides what a higher one divides
+pub pow-dvd : (i j n : ℕ) → i ≤ j → 2 ^ j ∣ n → 2 ^ i ∣ n
+pow-dvd i j n h d = dvd-trans (2 ^ i) (subst (λ (x : ℕ). 2 ^ i ∣ x) (sym (pow-add 2 (j - i) i) ∙ ap (λ (x : ℕ). 2 ^ x) (back i j h)) (dvd-mul-left (2 ^ i) (2 ^ (j - i)))) d
+  where
+    back : (i j : ℕ) → i ≤ j → j - i + i ≡ j
+    back i j h = omega arith

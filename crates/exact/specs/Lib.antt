@@ -1,0 +1,3 @@
+pub mod Value
+pub mod Integers
+pub mod Nearest
