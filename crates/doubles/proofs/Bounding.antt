@@ -5,19 +5,19 @@ use mathlib.Core.Bool.{Bool, true, false, not, cond, Bool·beq, true≢false}
 use Prim.Native.Nat.{ℕ, zero, suc, _+_, _-_, _*_, _%_, _^_, _≤_, _<_, min}
 use native.Mathlib.Nat.{le-refl, le-trans, le-of-eq, le-of-lt, not-le-of-lt, mul-one, le-antisymm, zero-mul, mul-zero}
 use native.Mathlib.Omega.{arith}
-use lib.IntN.{ℤ, pos, _+ℤ_, _*ℤ_, +ℤ-comm, +ℤ-idr}
+use lib.IntN.{ℤ, _+ℤ_, _*ℤ_, +ℤ-idr}
 use lib.Dec.{T, leb}
-use lib.Ieee.{Float, nan, inf, fin, binary64, unlike, toBits, fits, isNan, mul}
+use lib.Ieee.{Float, nan, inf, fin, binary64, unlike, toBits, fits, mul}
 use lib.Ieee.Scale.{finite}
 use Rattle.exact.specs.Value.{sign, signed, exact}
 use Rattle.exact.proofs.Naturals.{le-or-lt}
 use Rattle.exact.proofs.Signed.{signed-zero, signed-+, signed--, signed-*}
 use Rattle.doubles.specs.Rank.{atRank, rankDown, rankUp, largest, infinity, double}
 use Rattle.doubles.specs.Directed.{withZero, roundDown, roundUp, sumWith, productWith}
-use Rattle.doubles.proofs.Grid.{atRank-zero, atRank-lt, atRank-step, rankDown-iff, rankUp-iff}
+use Rattle.doubles.proofs.Grid.{atRank-zero, atRank-lt, atRank-step, rankUp-iff}
 use Rattle.doubles.proofs.Sums.{rankDown-between}
 use Rattle.doubles.proofs.Patterns.{place, placed, ranked, finite-no-nan, sign-test, place-mod}
-use Rattle.doubles.proofs.Zero.{zero-plus, withZero-rank}
+use Rattle.doubles.proofs.Zero.{zero-plus}
 use Rattle.doubles.proofs.Mirror.{rankDown-zero, rankUp-zero}
 
 -- ---- the bounds of ±n

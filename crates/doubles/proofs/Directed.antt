@@ -1,5 +1,5 @@
 -- `roundUp` gives the least double not below its number. Assumes nothing.
-use mathlib.Core.Path.{_≡_, refl, sym, ap, _∙_, subst}
+use mathlib.Core.Path.{_≡_, sym, ap, _∙_, subst}
 use mathlib.Core.Logic.{inl, inr}
 use mathlib.Core.Bool.{Bool, true, false, not, true≢false}
 use Prim.Native.Nat.{ℕ, suc, _+_, _*_, _^_, _≤_, _<_, min}
@@ -17,15 +17,12 @@ use Rattle.exact.proofs.Signed.{SignedLe, signed-scale, signed-≼}
 use Rattle.doubles.specs.Rank.{atRank, rankDown, rankUp, largest, infinity, double}
 use Rattle.doubles.specs.Directed.{withZero, roundUp, IsUp}
 use Rattle.doubles.proofs.Grid.{atRank-zero, atRank-mono, rankDown-iff, rankUp-iff}
-use Rattle.doubles.proofs.Patterns.{place, Ranked, ranked, exact-double, double-infinity, double-fits, finite-no-nan}
+use Rattle.doubles.proofs.Patterns.{place, Ranked, ranked, exact-double, infinite-rank, double-fits, finite-no-nan}
 use Rattle.doubles.proofs.Zero.{exact-withZero, finite-withZero, fits-withZero}
 
 -- ---- infinities by rank
-infinity-only : (r : ℕ) → r ≤ infinity → infinity ≤ r → r ≡ infinity
-infinity-only r h l = omega arith
-
 pub finite-rank : (s : Bool) (r : ℕ) → r ≤ infinity → T (finite (double s r)) → r < infinity
-finite-rank s r h t = elim (le-or-lt infinity r) [ inl l ↦ absurd (subst (λ (x : Float). T (finite x)) (ap (double s) (infinity-only r h l) ∙ double-infinity s) t) | inr l ↦ l ]
+finite-rank s r h t = elim (le-or-lt infinity r) [ inl l ↦ absurd (subst (λ (x : Float). T (finite x)) (infinite-rank s r h l) t) | inr l ↦ l ]
 
 number : (s : Bool) → T (not (isNan (inf s)))
 unfolding isNan
@@ -33,7 +30,7 @@ number s = tt
 
 pub no-nan-double : (s : Bool) (r : ℕ) → r ≤ infinity → T (not (isNan (double s r)))
 no-nan-double s r h = elim (le-or-lt infinity r) [
-  | inl l ↦ subst (λ (x : Float). T (not (isNan x))) (sym (ap (double s) (infinity-only r h l) ∙ double-infinity s)) (number s)
+  | inl l ↦ subst (λ (x : Float). T (not (isNan x))) (sym (infinite-rank s r h l)) (number s)
   | inr l ↦ finite-no-nan (double s r) (exact-double s r l .0)
 ]
 
@@ -47,7 +44,7 @@ not-itself false e = true≢false (sym e)
 -- a double of one sign is no infinity of the other, and a finite one is none
 no-other-infinity : (s : Bool) (r : ℕ) → r ≤ infinity → double s r ≡ inf (not s) → ⊥
 no-other-infinity s r h e = elim (le-or-lt infinity r) [
-  | inl l ↦ not-itself s (inf-sign s (not s) (sym (ap (double s) (infinity-only r h l) ∙ double-infinity s) ∙ e))
+  | inl l ↦ not-itself s (inf-sign s (not s) (sym (infinite-rank s r h l) ∙ e))
   | inr l ↦ no-infinity (double s r) (not s) (exact-double s r l .0) e
 ]
   where

@@ -1,17 +1,15 @@
 -- The order of all doubles by one number each, in which both zeros are one. Assumes nothing.
-use mathlib.Core.Path.{_≡_, refl, sym, ap, _∙_, subst}
-use mathlib.Core.Logic.{_⊎_, inl, inr, _↔_}
+use mathlib.Core.Path.{_≡_, refl, sym, ap, _∙_}
+use mathlib.Core.Logic.{inl, inr, _↔_}
 use mathlib.Core.Bool.{Bool, true, false, not, cond}
 use Prim.Native.Nat.{ℕ, _+_, _-_, _^_, _≤_, _<_}
 use native.Mathlib.Nat.{not-le-of-lt, le-of-lt}
 use native.Mathlib.Omega.{arith}
-use lib.IntN.{ℤ}
 use lib.Dec.{T, leb, ltb, leb→le, le→leb, ltb→lt, lt→ltb, not-T}
 use lib.Ieee.{Float, nan, inf, fin, binary64, fits, isNan, lt, toBits}
 use lib.Ieee.Bits.{is-true, is-false}
 use lib.Ieee.Scale.{finite}
-use Rattle.exact.specs.Value.{sign, signed, exact}
-use Rattle.exact.specs.Integers.{_≺_}
+use Rattle.exact.specs.Value.{sign}
 use Rattle.exact.proofs.Naturals.{le-or-lt}
 use Rattle.exact.proofs.Signed.{SignedLt, signed-≺}
 use Rattle.exact.proofs.Compare.{same-bool, lt-to, lt-of}

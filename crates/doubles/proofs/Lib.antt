@@ -14,3 +14,5 @@ pub mod Tests
 pub mod Keys
 pub mod Steps
 pub mod Bounding
+pub mod Choice
+pub mod Ends

@@ -7,7 +7,7 @@ use native.Mathlib.Omega.{arith}
 use lib.IntN.{ℤ, pos, negsuc, negℤ, _*ℤ_, negℤ-negℤ}
 use lib.Dec.{T, lit<}
 use lib.Pow.{pow-pos}
-use lib.Ieee.{Float, nan, inf, fin, binary64, ofBits, isNan, neg}
+use lib.Ieee.{Float, nan, inf, fin, binary64, isNan, neg}
 use lib.Ieee.Fits.{neg-fits}
 use lib.Ieee.Scale.{finite}
 use Rattle.exact.specs.Value.{exact, exactAt}

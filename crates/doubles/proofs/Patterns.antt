@@ -54,14 +54,15 @@ unfolding ofBits
 double-infinity true = refl
 double-infinity false = refl
 
-pub double-sign : (s : Bool) (r : ℕ) → r ≤ infinity → sign (double s r) ≡ s
-double-sign s r h = elim (le-or-lt infinity r) [
-  | inl l ↦ ap sign (ap (double s) (same r h l) ∙ double-infinity s)
-  | inr l ↦ value-of (double s r) s (atRank 52 r) (double-value s r l) .1
-]
+-- the last rank there is
+pub infinite-rank : (s : Bool) (r : ℕ) → r ≤ infinity → infinity ≤ r → double s r ≡ inf s
+infinite-rank s r h l = ap (double s) (same r h l) ∙ double-infinity s
   where
     same : (r : ℕ) → r ≤ infinity → infinity ≤ r → r ≡ infinity
     same r h l = omega arith
+
+pub double-sign : (s : Bool) (r : ℕ) → r ≤ infinity → sign (double s r) ≡ s
+double-sign s r h = elim (le-or-lt infinity r) [ inl l ↦ ap sign (infinite-rank s r h l) | inr l ↦ value-of (double s r) s (atRank 52 r) (double-value s r l) .1 ]
 
 pub double-fits : (s : Bool) (r : ℕ) → T (fits binary64 (double s r))
 double-fits true r = ofBits-fits binary64 (2 ^ 63 + r)

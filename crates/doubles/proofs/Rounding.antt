@@ -14,7 +14,7 @@ use Rattle.exact.specs.Integers.{_≼_, _≺_}
 use Rattle.exact.proofs.Difference.{differences}
 use Rattle.exact.proofs.Order.{≼-refl, ≼-trans, ≼-antisym, ≺-not-≼, neg-≼, neg-≺, *-mono, *-cancel}
 use Rattle.exact.proofs.Signed.{SignedLe, signed-≼}
-use Rattle.exact.proofs.Compare.{le-exact}
+use Rattle.exact.proofs.Compare.{le-exact, le-top, le-bottom}
 use Rattle.doubles.specs.Rank.{atRank, largest, infinity, double}
 use Rattle.doubles.specs.Directed.{withZero, roundUp, roundDown}
 use Rattle.doubles.proofs.Grid.{atRank-mono}
@@ -23,21 +23,6 @@ use Rattle.doubles.proofs.Zero.{withZero-own}
 use Rattle.doubles.proofs.Unique.{exact-unique}
 use Rattle.doubles.proofs.Directed.{round-up-law}
 use Rattle.doubles.proofs.Mirror.{mirror, mirror-up, up-zero, down-zero, round-down-law}
-
--- ---- infinities at the ends of the order
-le-top : (x : Float) → T (not (isNan x)) → T (le x (inf false))
-unfolding le lib.Ieee.lt lib.Ieee.eq isNan
-le-top nan h = absurd h
-le-top (inf true) h = tt
-le-top (inf false) h = tt
-le-top (fin s m e) h = tt
-
-le-bottom : (x : Float) → T (not (isNan x)) → T (le (inf true) x)
-unfolding le lib.Ieee.lt lib.Ieee.eq isNan
-le-bottom nan h = absurd h
-le-bottom (inf true) h = tt
-le-bottom (inf false) h = tt
-le-bottom (fin s m e) h = tt
 
 -- a double that is no NaN and not one infinity is finite or the other
 finite-or : (s : Bool) (x : Float) → T (not (isNan x)) → (x ≡ inf (not s) → ⊥) → T (finite x) ⊎ (x ≡ inf s)

@@ -1,16 +1,14 @@
 -- The next double by sign and rank, as the code finds it: one rank up, or for a negative double one down. Assumes nothing.
-use mathlib.Core.Path.{_≡_, refl, sym, ap, _∙_, subst}
-use mathlib.Core.Logic.{_⊎_, inl, inr}
+use mathlib.Core.Path.{_≡_, refl, sym, ap, _∙_}
+use mathlib.Core.Logic.{inl, inr}
 use mathlib.Core.Bool.{Bool, true, false, not, cond}
 use Prim.Native.Nat.{ℕ, zero, suc, _+_, _-_, _*_, _^_, _≤_, _<_, min}
-use native.Mathlib.Nat.{le-refl, le-of-lt, not-le-of-lt}
 use native.Mathlib.Omega.{arith}
 use lib.IntN.{ℤ, pos, negsuc, negℤ, _+ℤ_, _*ℤ_}
 use lib.Dec.{T}
 use lib.Ieee.{Float, nan, inf, fin, binary64, ofBits, toBits, fits, isNan}
 use lib.Ieee.Bits.{ofBits-toBits}
-use lib.Ieee.Scale.{finite}
-use Rattle.exact.specs.Value.{sign, signed, exact, exactAt}
+use Rattle.exact.specs.Value.{sign, signed, exactAt}
 use Rattle.exact.proofs.Difference.{differences}
 use Rattle.exact.proofs.Naturals.{le-or-lt}
 use Rattle.exact.proofs.Signed.{signed-scale}
@@ -18,7 +16,7 @@ use Rattle.doubles.specs.Rank.{atRank, rankDown, rankUp, largest, infini
 use Rattle.doubles.specs.Directed.{withZero, roundUp}
 use Rattle.doubles.specs.Neighbours.{nextUp}
 use Rattle.doubles.proofs.Grid.{atRank-zero, atRank-step, rankDown-iff, rankUp-iff}
-use Rattle.doubles.proofs.Patterns.{place, Placed, placed, Ranked, ranked, double-sign, double-infinity}
+use Rattle.doubles.proofs.Patterns.{place, placed, ranked, double-sign, double-infinity}
 use Rattle.doubles.proofs.Zero.{withZero-twice, withZero-own, withZero-rank}
 
 -- half a unit above a rank's value lies below the next rank's, and half a unit below it above the one before

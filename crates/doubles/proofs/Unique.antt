@@ -6,7 +6,7 @@ use native.Mathlib.Nat.{zero-lt-suc}
 use native.Mathlib.Omega.{arith}
 use lib.IntN.{ℤ, natAbs}
 use lib.Dec.{T}
-use lib.Ieee.{Float, binary64, ofBits, fits}
+use lib.Ieee.{Float, binary64, fits}
 use lib.Ieee.Scale.{finite}
 use Rattle.exact.specs.Value.{sign, signed, exact}
 use Rattle.exact.specs.Integers.{_≼_}

@@ -12,10 +12,10 @@ use Rattle.exact.specs.Value.{sign, magnitude, signed, exact}
 use Rattle.exact.proofs.Naturals.{le-or-lt}
 use Rattle.exact.proofs.Values.{exact-is}
 use Rattle.exact.proofs.Signed.{signed-zero}
-use Rattle.doubles.specs.Rank.{atRank, infinity, double}
+use Rattle.doubles.specs.Rank.{infinity, double}
 use Rattle.doubles.proofs.Grid.{atRank-lt}
 use Rattle.doubles.specs.Directed.{withZero}
-use Rattle.doubles.proofs.Patterns.{double-infinity, magnitude-double}
+use Rattle.doubles.proofs.Patterns.{infinite-rank, magnitude-double}
 
 magnitude-zero : (s : Bool) (e : ℤ) → magnitude (fin s zero e) ≡ 0
 unfolding magnitude
@@ -79,16 +79,10 @@ withZero-nonzero s (fin t (suc m) e) h = refl
 -- so of a rank above 0
 pub withZero-rank : (s t : Bool) (r : ℕ) → 0 < r → r ≤ infinity → withZero s (double t r) ≡ double t r
 withZero-rank s t r h k = elim (le-or-lt infinity r) [
-  | inl l ↦ ap (withZero s) (at l) ∙ sym (at l)
-  | inr l ↦ withZero-nonzero s (double t r) (positive l)
-]
+    | inl l ↦ ap (withZero s) (infinite-rank t r k l) ∙ sym (infinite-rank t r k l)
+    | inr l ↦ withZero-nonzero s (double t r) (positive l)
+  ]
   where
-    same : (r : ℕ) → r ≤ infinity → infinity ≤ r → r ≡ infinity
-    same r h l = omega arith
-
-    at : infinity ≤ r → double t r ≡ inf t
-    at l = ap (double t) (same r k l) ∙ double-infinity t
-
     positive : r < infinity → 0 < magnitude (double t r)
     positive l = omega (arith, magnitude-double t r l, atRank-lt 52 0 r h)
 

@@ -1,7 +1,7 @@
--- `lib.Ieee`'s comparisons of finite doubles are those of their exact values. Assumes nothing.
+-- `lib.Ieee`'s comparisons of finite doubles are those of their exact values, and the infinities stand at the ends. Assumes nothing.
 use mathlib.Core.Path.{_≡_, refl, sym, ap, _∙_, subst}
 use mathlib.Core.Logic.{_↔_, _⊎_, inl, inr, ⊎-elim}
-use mathlib.Core.Bool.{Bool, true, false, _&&_, _||_}
+use mathlib.Core.Bool.{Bool, true, false, not, _&&_, _||_}
 use Prim.Native.Nat.{ℕ, _+_, _*_, _^_, _<_}
 use native.Mathlib.Nat.{le-of-eq, lt-of-lt-of-le, lt-of-le-of-lt, mul-pos, mul-lt-mul-of-pos-right, lt-of-mul-lt-mul-right, eq-of-mul-eq-mul-right}
 use native.Mathlib.Omega.{arith}
@@ -9,7 +9,7 @@ use lib.IntN.{ℤ}
 use lib.Signed.{ltZ, ltZ-yes}
 use lib.Dec.{T, eqb, ltb→lt, lt→ltb, eqb→eq}
 use lib.Pow.{pow-pos}
-use lib.Ieee.{Float, nan, inf, fin, binary64, up, down, lt, le, eq, fits, level}
+use lib.Ieee.{Float, nan, inf, fin, binary64, up, down, lt, le, eq, fits, isNan, level}
 use lib.Ieee.{below as is-below}
 use lib.Ieee.Fits.{down-pos, and-i, and-l, and-r, eq→eqb}
 use lib.Ieee.Scale.{finite}
@@ -143,3 +143,18 @@ module _ (x y : Float) (fx : T (finite x)) (fy : T (finite y)) (hx : T (fits bin
     λ h. ⊎-elim (λ l. ≼-of-≺ (lt-to l)) (λ e. subst (λ (z : ℤ). exact x ≼ z) (eq-exact .0 e) (≼-refl (exact x))) (either (lt x y) (eq x y) h),
     λ h. ⊎-elim (λ k. or-r (lt x y) (eq x y) (eq-exact .1 (≼-antisym h k))) (λ l. or-l (lt x y) (eq x y) (lt-of l)) (≼-or-≺ (exact y) (exact x)),
   )
+
+-- ---- infinities stand at the ends of the order
+pub le-top : (x : Float) → T (not (isNan x)) → T (le x (inf false))
+unfolding le lt eq isNan
+le-top nan h = absurd h
+le-top (inf true) h = tt
+le-top (inf false) h = tt
+le-top (fin s m e) h = tt
+
+pub le-bottom : (x : Float) → T (not (isNan x)) → T (le (inf true) x)
+unfolding le lt eq isNan
+le-bottom nan h = absurd h
+le-bottom (inf true) h = tt
+le-bottom (inf false) h = tt
+le-bottom (fin s m e) h = tt
