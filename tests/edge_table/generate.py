@@ -96,11 +96,10 @@ def one(a):
 
 
 def next_up(a):
+    """The least double at least half a smallest step above; a zero comes from below, so it is -0."""
     if is_nan(a) or a == INF:
         return one(a)
-    if a & ~SIGN == 0:
-        return 1
-    return a - 1 if a & SIGN else a + 1
+    return round_up(value(a) + Fraction(1, 2 ** 1075)) or SIGN
 
 
 def next_down(a):
