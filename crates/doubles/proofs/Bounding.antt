@@ -16,7 +16,7 @@ use Rattle.doubles.specs.Rank.{atRank, rankDown, rankUp, largest, infini
 use Rattle.doubles.specs.Directed.{withZero, roundDown, roundUp, sumWith, productWith}
 use Rattle.doubles.proofs.Grid.{atRank-zero, atRank-lt, atRank-step, rankUp-iff}
 use Rattle.doubles.proofs.Sums.{rankDown-between}
-use Rattle.doubles.proofs.Patterns.{place, placed, ranked, finite-no-nan, sign-test, place-mod}
+use Rattle.doubles.proofs.Patterns.{rankOf, pattern, ranked, finite-no-nan, sign-test, rankOf-mod}
 use Rattle.doubles.proofs.Zero.{zero-plus}
 use Rattle.doubles.proofs.Mirror.{rankDown-zero, rankUp-zero}
 
@@ -114,12 +114,12 @@ pub record Parts (a : Float) (r : ℕ) (s : Bool) : Type 0 where
 
 pub parts : (a : Float) → T (finite a) → T (fits binary64 a) → Parts a (toBits binary64 a % 2 ^ 63) (leb (2 ^ 63) (toBits binary64 a))
 parts a f h =
-    let w = placed a (finite-no-nan a f) h in
+    let w = pattern a (finite-no-nan a f) h in
     let X = ranked a f h in
-    let p = place-mod (toBits binary64 a) (sign a) (place a) (w .bits) (w .most) in
+    let p = rankOf-mod (toBits binary64 a) (sign a) (rankOf a) (w .bits) (w .most) in
     record {
       small = subst (λ (x : ℕ). x < infinity) (sym p) (X .small);
-      value = X .value ∙ ap (λ (x : ℕ). signed (sign a) (atRank 52 x)) (sym p) ∙ ap (λ (s : Bool). signed s (atRank 52 (toBits binary64 a % 2 ^ 63))) (sym (sign-test (toBits binary64 a) (sign a) (place a) (w .bits) (w .most)));
+      value = X .value ∙ ap (λ (x : ℕ). signed (sign a) (atRank 52 x)) (sym p) ∙ ap (λ (s : Bool). signed s (atRank 52 (toBits binary64 a % 2 ^ 63))) (sym (sign-test (toBits binary64 a) (sign a) (rankOf a) (w .bits) (w .most)));
     }
 
 pub parts-sum : (a b : Float) (r t : ℕ) (s n : Bool) → Parts a r s → Parts b t n → exact a +ℤ exact b ≡ signed s (atRank 52 r) +ℤ signed n (atRank 52 t)

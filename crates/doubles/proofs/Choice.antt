@@ -14,7 +14,7 @@ use Rattle.exact.specs.Integers.{maxℤ}
 use Rattle.exact.proofs.Order.{≼-or-≺}
 use Rattle.exact.proofs.Compare.{lt-of, lt-exact, le-exact, le-top, le-bottom}
 use Rattle.doubles.specs.Compare.{absolute, larger, smaller}
-use Rattle.doubles.proofs.Patterns.{place, finite-no-nan}
+use Rattle.doubles.proofs.Patterns.{rankOf, finite-no-nan}
 use Rattle.doubles.proofs.Keys.{key, lt-key, chosen-nan, chosen-is, lt-nan-l, lt-nan-r, larger-is, smaller-is}
 
 -- what is not less is not below
@@ -39,13 +39,13 @@ le-of-not-lt (fin s m c) (fin r n d) t u h k e =
 
 lt-asym : (a b : Float) → T (not (isNan a)) → T (not (isNan b)) → T (fits binary64 a) → T (fits binary64 b) → lt a b ≡ true → lt b a ≡ false
 lt-asym a b t u h k e =
-    let x = key (sign a) (place a) in
-    let y = key (sign b) (place b) in
+    let x = key (sign a) (rankOf a) in
+    let y = key (sign b) (rankOf b) in
     let l : x < y = ltb→lt x y (subst T (sym (lt-key a b t u h k ∙ e)) tt) in
     sym (lt-key b a u t k h) ∙ is-false (ltb y x) (not-T (ltb y x) (λ q. not-le-of-lt l (le-of-lt (ltb→lt y x q))))
 
 lt-irrefl : (a : Float) → T (not (isNan a)) → T (fits binary64 a) → lt a a ≡ false
-lt-irrefl a t h = let x = key (sign a) (place a) in sym (lt-key a a t t h h) ∙ is-false (ltb x x) (not-T (ltb x x) (λ q. not-le-of-lt (ltb→lt x x q) (le-refl x)))
+lt-irrefl a t h = let x = key (sign a) (rankOf a) in sym (lt-key a a t t h h) ∙ is-false (ltb x x) (not-T (ltb x x) (λ q. not-le-of-lt (ltb→lt x x q) (le-refl x)))
 
 module _ (a b : Float) (t : T (not (isNan a))) (u : T (not (isNan b))) (h : T (fits binary64 a)) (k : T (fits binary64 b)) where
   -- ---- `larger` is one of the two, and neither is above it

@@ -17,12 +17,12 @@ use Rattle.exact.proofs.Signed.{SignedLe, signed-scale, signed-≼}
 use Rattle.doubles.specs.Rank.{atRank, rankDown, rankUp, largest, infinity, double}
 use Rattle.doubles.specs.Directed.{withZero, roundUp, IsUp}
 use Rattle.doubles.proofs.Grid.{atRank-zero, atRank-mono, rankDown-iff, rankUp-iff}
-use Rattle.doubles.proofs.Patterns.{place, Ranked, ranked, exact-double, infinite-rank, double-fits, finite-no-nan}
+use Rattle.doubles.proofs.Patterns.{rankOf, Ranked, ranked, exact-double, infinite-rank, double-fits, finite-no-nan}
 use Rattle.doubles.proofs.Zero.{exact-withZero, finite-withZero, fits-withZero}
 
 -- ---- infinities by rank
-pub finite-rank : (s : Bool) (r : ℕ) → r ≤ infinity → T (finite (double s r)) → r < infinity
-finite-rank s r h t = elim (le-or-lt infinity r) [ inl l ↦ absurd (subst (λ (x : Float). T (finite x)) (infinite-rank s r h l) t) | inr l ↦ l ]
+pub finite-double : (s : Bool) (r : ℕ) → r ≤ infinity → T (finite (double s r)) → r < infinity
+finite-double s r h t = elim (le-or-lt infinity r) [ inl l ↦ absurd (subst (λ (x : Float). T (finite x)) (infinite-rank s r h l) t) | inr l ↦ l ]
 
 number : (s : Bool) → T (not (isNan (inf s)))
 unfolding isNan
@@ -58,11 +58,11 @@ scaled l d s v e = ap (λ (z : ℤ). z *ℤ pos (2 ^ l)) e ∙ signed-scale s v 
 not-below-by : (l : ℕ) (t : Bool) (n : ℕ) (d : Float) (s : Bool) (v : ℕ) → exact d ≡ signed s v → SignedLe t n s (v * 2 ^ l) → signed t n ≼ exactAt l d
 not-below-by l t n d s v e o = subst (λ (z : ℤ). signed t n ≼ z) (sym (scaled l d s v e)) (signed-≼ t n s (v * 2 ^ l) .1 o)
 
-above-of : (l : ℕ) (t : Bool) (n : ℕ) (x : Float) (X : Ranked x) → signed t n ≼ exactAt l x → SignedLe t n (sign x) (atRank 52 (place x) * 2 ^ l)
-above-of l t n x X o = signed-≼ t n (sign x) (atRank 52 (place x) * 2 ^ l) .0 (subst (λ (z : ℤ). signed t n ≼ z) (scaled l x (sign x) (atRank 52 (place x)) (X .value)) o)
+above-of : (l : ℕ) (t : Bool) (n : ℕ) (x : Float) (X : Ranked x) → signed t n ≼ exactAt l x → SignedLe t n (sign x) (atRank 52 (rankOf x) * 2 ^ l)
+above-of l t n x X o = signed-≼ t n (sign x) (atRank 52 (rankOf x) * 2 ^ l) .0 (subst (λ (z : ℤ). signed t n ≼ z) (scaled l x (sign x) (atRank 52 (rankOf x)) (X .value)) o)
 
-at-most : (d x : Float) (s : Bool) (v : ℕ) (X : Ranked x) → exact d ≡ signed s v → SignedLe s v (sign x) (atRank 52 (place x)) → exact d ≼ exact x
-at-most d x s v X e o = subst (λ (z : ℤ). z ≼ exact x) (sym e) (subst (λ (z : ℤ). signed s v ≼ z) (sym (X .value)) (signed-≼ s v (sign x) (atRank 52 (place x)) .1 o))
+at-most : (d x : Float) (s : Bool) (v : ℕ) (X : Ranked x) → exact d ≡ signed s v → SignedLe s v (sign x) (atRank 52 (rankOf x)) → exact d ≼ exact x
+at-most d x s v X e o = subst (λ (z : ℤ). z ≼ exact x) (sym e) (subst (λ (z : ℤ). signed s v ≼ z) (sym (X .value)) (signed-≼ s v (sign x) (atRank 52 (rankOf x)) .1 o))
 
 -- ---- the least double not below z, for a z not below 0 …
 module _ (l n : ℕ) where
@@ -77,10 +77,10 @@ module _ (l n : ℕ) where
     fit = double-fits false u;
     no-nan = no-nan-double false u u-le;
     no-other = no-other-infinity false u u-le;
-    not-below = λ t. let q = finite-rank false u u-le t in not-below-by l false n (double false u) false (atRank 52 u) (exact-double false u q .1) (reached q);
+    not-below = λ t. let q = finite-double false u u-le t in not-below-by l false n (double false u) false (atRank 52 u) (exact-double false u q .1) (reached q);
     least = λ x f h o.
         let X = ranked x f h in
-        let g = go (sign x) (place x) (X .small) (above-of l false n x X o) in
+        let g = go (sign x) (rankOf x) (X .small) (above-of l false n x X o) in
         let D = exact-double false u (g .0) in
         (D .0, at-most (double false u) x false (atRank 52 u) X (D .1) (g .1));
   }
@@ -122,7 +122,7 @@ module _ (l n : ℕ) where
     no-nan = finite-no-nan d d-finite;
     no-other = λ e. subst (λ (y : Float). T (finite y)) e d-finite;
     not-below = λ t. not-below-by l true (suc n) d true (atRank 52 r) d-exact reached;
-    least = λ x f h o. let X = ranked x f h in (d-finite, at-most d x true (atRank 52 r) X d-exact (go (sign x) (place x) (X .small) (above-of l true (suc n) x X o)));
+    least = λ x f h o. let X = ranked x f h in (d-finite, at-most d x true (atRank 52 r) X d-exact (go (sign x) (rankOf x) (X .small) (above-of l true (suc n) x X o)));
   }
     where
       reached : SignedLe true (suc n) true (atRank 52 r * 2 ^ l)

@@ -16,7 +16,7 @@ use Rattle.exact.proofs.Compare.{same-bool, lt-to, lt-of}
 use Rattle.doubles.specs.Rank.{atRank, infinity}
 use Rattle.doubles.specs.Compare.{larger, smaller}
 use Rattle.doubles.proofs.Grid.{atRank-zero, atRank-lt, atRank-mono}
-use Rattle.doubles.proofs.Patterns.{place, placed, ranked, sign-test}
+use Rattle.doubles.proofs.Patterns.{rankOf, pattern, ranked, sign-test}
 
 abbrev pub key : Bool → ℕ → ℕ
 key false p = 2 ^ 63 + p
@@ -24,11 +24,11 @@ key true p = 2 ^ 63 - p
 
 -- as the code finds it
 pub key-bits : (x : Float) → T (not (isNan x)) → T (fits binary64 x)
-    → cond (leb (2 ^ 63) (toBits binary64 x)) (2 ^ 63 - (toBits binary64 x - 2 ^ 63)) (2 ^ 63 + toBits binary64 x) ≡ key (sign x) (place x)
+    → cond (leb (2 ^ 63) (toBits binary64 x)) (2 ^ 63 - (toBits binary64 x - 2 ^ 63)) (2 ^ 63 + toBits binary64 x) ≡ key (sign x) (rankOf x)
 key-bits x t h =
-    let w = placed x t h in
+    let w = pattern x t h in
     let b = toBits binary64 x in
-    ap (λ (s : Bool). cond s (2 ^ 63 - (b - 2 ^ 63)) (2 ^ 63 + b)) (sign-test b (sign x) (place x) (w .bits) (w .most)) ∙ go (sign x) b (place x) (w .bits)
+    ap (λ (s : Bool). cond s (2 ^ 63 - (b - 2 ^ 63)) (2 ^ 63 + b)) (sign-test b (sign x) (rankOf x) (w .bits) (w .most)) ∙ go (sign x) b (rankOf x) (w .bits)
   where
     go : (s : Bool) (b p : ℕ) → b ≡ cond s (2 ^ 63) 0 + p → cond s (2 ^ 63 - (b - 2 ^ 63)) (2 ^ 63 + b) ≡ key s p
     go true b p e = omega arith
@@ -75,19 +75,19 @@ not-highest : (t : Bool) (p : ℕ) → p < infinity → ltb (key false infinity)
 not-highest true p h = not-less (2 ^ 63 + infinity) (2 ^ 63 - p) (omega arith)
 not-highest false p h = not-less (2 ^ 63 + infinity) (2 ^ 63 + p) (omega arith)
 
-finite-key : (a b : Float) → T (finite a) → T (finite b) → T (fits binary64 a) → T (fits binary64 b) → ltb (key (sign a) (place a)) (key (sign b) (place b)) ≡ lt a b
+finite-key : (a b : Float) → T (finite a) → T (finite b) → T (fits binary64 a) → T (fits binary64 b) → ltb (key (sign a) (rankOf a)) (key (sign b) (rankOf b)) ≡ lt a b
 finite-key a b f g h k =
     let A = ranked a f h in
     let B = ranked b g k in
-    let x = key (sign a) (place a) in
-    let y = key (sign b) (place b) in
-    let o = signed-key (sign a) (sign b) (place a) (place b) (le-of-lt (A .small)) (le-of-lt (B .small)) in
-    let s = signed-≺ (sign a) (atRank 52 (place a)) (sign b) (atRank 52 (place b)) in
+    let x = key (sign a) (rankOf a) in
+    let y = key (sign b) (rankOf b) in
+    let o = signed-key (sign a) (sign b) (rankOf a) (rankOf b) (le-of-lt (A .small)) (le-of-lt (B .small)) in
+    let s = signed-≺ (sign a) (atRank 52 (rankOf a)) (sign b) (atRank 52 (rankOf b)) in
     same-bool (ltb x y) (lt a b)
     (λ t. lt-of a b f g h k (rw (A .value, B .value) (s .1 (o .1 (ltb→lt x y t)))))
     (λ t. lt→ltb x y (o .0 (s .0 (rw (A .value, B .value) at (lt-to a b f g h k t)))))
 
-pub lt-key : (a b : Float) → T (not (isNan a)) → T (not (isNan b)) → T (fits binary64 a) → T (fits binary64 b) → ltb (key (sign a) (place a)) (key (sign b) (place b)) ≡ lt a b
+pub lt-key : (a b : Float) → T (not (isNan a)) → T (not (isNan b)) → T (fits binary64 a) → T (fits binary64 b) → ltb (key (sign a) (rankOf a)) (key (sign b) (rankOf b)) ≡ lt a b
 unfolding lt isNan
 lt-key nan b t u h k = absurd t
 lt-key (inf s) nan t u h k = absurd u
@@ -95,11 +95,11 @@ lt-key (inf true) (inf true) t u h k = refl
 lt-key (inf true) (inf false) t u h k = refl
 lt-key (inf false) (inf true) t u h k = refl
 lt-key (inf false) (inf false) t u h k = refl
-lt-key (inf true) (fin r n d) t u h k = lowest r (place (fin r n d)) (ranked (fin r n d) tt k .small)
-lt-key (inf false) (fin r n d) t u h k = not-highest r (place (fin r n d)) (ranked (fin r n d) tt k .small)
+lt-key (inf true) (fin r n d) t u h k = lowest r (rankOf (fin r n d)) (ranked (fin r n d) tt k .small)
+lt-key (inf false) (fin r n d) t u h k = not-highest r (rankOf (fin r n d)) (ranked (fin r n d) tt k .small)
 lt-key (fin s m e) nan t u h k = absurd u
-lt-key (fin s m e) (inf true) t u h k = not-lowest s (place (fin s m e)) (ranked (fin s m e) tt h .small)
-lt-key (fin s m e) (inf false) t u h k = highest s (place (fin s m e)) (ranked (fin s m e) tt h .small)
+lt-key (fin s m e) (inf true) t u h k = not-lowest s (rankOf (fin s m e)) (ranked (fin s m e) tt h .small)
+lt-key (fin s m e) (inf false) t u h k = highest s (rankOf (fin s m e)) (ranked (fin s m e) tt h .small)
 lt-key (fin s m e) (fin r n d) t u h k = finite-key (fin s m e) (fin r n d) tt tt h k
 
 -- ---- the choice of the code
@@ -115,7 +115,7 @@ order-high b h = sym (ap (λ (s : Bool). cond s (2 ^ 63 - (b - 2 ^ 63)) (2 ^ 63 
 module _ (a b : Float) (t : T (not (isNan a))) (u : T (not (isNan b))) (h : T (fits binary64 a)) (k : T (fits binary64 b)) (x y : ℕ)
     (X : x ≡ orderOf (toBits binary64 a)) (Y : y ≡ orderOf (toBits binary64 b)) where
   lt-order : ltb x y ≡ lt a b
-  lt-order = ap (λ (n : ℕ). ltb n y) (X ∙ key-bits a t h) ∙ ap (ltb (key (sign a) (place a))) (Y ∙ key-bits b u k) ∙ lt-key a b t u h k
+  lt-order = ap (λ (n : ℕ). ltb n y) (X ∙ key-bits a t h) ∙ ap (ltb (key (sign a) (rankOf a))) (Y ∙ key-bits b u k) ∙ lt-key a b t u h k
 
   pub order-lt : x < y → lt a b ≡ true
   order-lt l = sym lt-order ∙ yes-less x y l
@@ -158,7 +158,7 @@ smaller-is a b = refl
 
 -- the code's differences stay above 0
 pub order-room : (x : Float) → T (not (isNan x)) → T (fits binary64 x) → toBits binary64 x - 2 ^ 63 ≤ 2 ^ 63
-order-room x t h = let w = placed x t h in go (sign x) (toBits binary64 x) (place x) (w .bits) (w .most)
+order-room x t h = let w = pattern x t h in go (sign x) (toBits binary64 x) (rankOf x) (w .bits) (w .most)
   where
     go : (s : Bool) (b p : ℕ) → b ≡ cond s (2 ^ 63) 0 + p → p ≤ infinity → b - 2 ^ 63 ≤ 2 ^ 63
     go true b p e h = omega arith

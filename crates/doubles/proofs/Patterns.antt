@@ -89,12 +89,12 @@ pub neg-double : (s : Bool) (r : ℕ) → r < 2 ^ 63 → neg (double s r) ≡ do
 neg-double s r h = ap neg (double-fields s r h) ∙ neg-fields s (r / 2 ^ 52) (r % 2 ^ 52) ∙ sym (double-fields (not s) r h)
 
 -- ---- from a double to its rank
-abbrev pub place : Float → ℕ
-place nan = 0
-place (inf s) = infinity
-place (fin s m e) = rank 52 (magnitude (fin s m e))
+abbrev pub rankOf : Float → ℕ
+rankOf nan = 0
+rankOf (inf s) = infinity
+rankOf (fin s m e) = rank 52 (magnitude (fin s m e))
 
-finite-bits : (x : Float) → T (finite x) → toBits binary64 x ≡ cond (sign x) (2 ^ 63) 0 + place x
+finite-bits : (x : Float) → T (finite x) → toBits binary64 x ≡ cond (sign x) (2 ^ 63) 0 + rankOf x
 unfolding toBits magnitude rank
 finite-bits nan t = absurd t
 finite-bits (inf s) t = absurd t
@@ -103,7 +103,7 @@ finite-bits (fin s m e) t = let n = m * up e * 2 ^ 1074 / down e in add-assoc (c
 infinity-value : atRank 52 infinity ≡ 2 ^ 2098
 infinity-value = atRank-form 52 2046 (2 ^ 52) (inr (le-refl (2 ^ 52))) (lit< tt)
 
-finite-less : (x : Float) → T (finite x) → T (fits binary64 x) → place x < infinity
+finite-less : (x : Float) → T (finite x) → T (fits binary64 x) → rankOf x < infinity
 finite-less nan t h = absurd t
 finite-less (inf s) t h = absurd t
 finite-less (fin s m e) t h =
@@ -113,26 +113,26 @@ finite-less (fin s m e) t h =
       | inr g ↦ g
     ]
 
-pattern : (s : Bool) (r : ℕ) → ofBits binary64 (cond s (2 ^ 63) 0 + r) ≡ double s r
-pattern true r = refl
-pattern false r = ap (ofBits binary64) (plain r)
+of-pattern : (s : Bool) (r : ℕ) → ofBits binary64 (cond s (2 ^ 63) 0 + r) ≡ double s r
+of-pattern true r = refl
+of-pattern false r = ap (ofBits binary64) (plain r)
   where
     plain : (r : ℕ) → 0 + r ≡ r
     plain r = omega arith
 
-pub record Placed (x : Float) : Type 0 where
-  pub bits : toBits binary64 x ≡ cond (sign x) (2 ^ 63) 0 + place x
-  pub most : place x ≤ infinity
-  pub same : x ≡ double (sign x) (place x)
+pub record Pattern (x : Float) : Type 0 where
+  pub bits : toBits binary64 x ≡ cond (sign x) (2 ^ 63) 0 + rankOf x
+  pub most : rankOf x ≤ infinity
+  pub same : x ≡ double (sign x) (rankOf x)
 
-pub placed : (x : Float) → T (not (isNan x)) → T (fits binary64 x) → Placed x
+pub pattern : (x : Float) → T (not (isNan x)) → T (fits binary64 x) → Pattern x
 unfolding isNan toBits
-placed nan t h = absurd t
-placed (inf true) t h = record { bits = refl; most = le-refl infinity; same = sym (double-infinity true) }
-placed (inf false) t h = record { bits = refl; most = le-refl infinity; same = sym (double-infinity false) }
-placed (fin s m e) t h =
+pattern nan t h = absurd t
+pattern (inf true) t h = record { bits = refl; most = le-refl infinity; same = sym (double-infinity true) }
+pattern (inf false) t h = record { bits = refl; most = le-refl infinity; same = sym (double-infinity false) }
+pattern (fin s m e) t h =
     let x = fin s m e in
-    record { bits = finite-bits x tt; most = le-of-lt (finite-less x tt h); same = sym (ofBits-toBits binary64 x h) ∙ ap (ofBits binary64) (finite-bits x tt) ∙ pattern s (place x) }
+    record { bits = finite-bits x tt; most = le-of-lt (finite-less x tt h); same = sym (ofBits-toBits binary64 x h) ∙ ap (ofBits binary64) (finite-bits x tt) ∙ of-pattern s (rankOf x) }
 
 pub finite-no-nan : (x : Float) → T (finite x) → T (not (isNan x))
 unfolding isNan
@@ -142,18 +142,18 @@ finite-no-nan (fin s m e) t = tt
 
 -- a finite double's value is that of its rank
 pub record Ranked (x : Float) : Type 0 where
-  pub small : place x < infinity
-  pub value : exact x ≡ signed (sign x) (atRank 52 (place x))
+  pub small : rankOf x < infinity
+  pub value : exact x ≡ signed (sign x) (atRank 52 (rankOf x))
 
 pub ranked : (x : Float) → T (finite x) → T (fits binary64 x) → Ranked x
 ranked x t h =
     let l = finite-less x t h in
-    record { small = l; value = ap exact (placed x (finite-no-nan x t) h .same) ∙ exact-double (sign x) (place x) l .1 }
+    record { small = l; value = ap exact (pattern x (finite-no-nan x t) h .same) ∙ exact-double (sign x) (rankOf x) l .1 }
 
 -- ---- what the code reads of a pattern
-pub place-mod : (x : ℕ) (s : Bool) (r : ℕ) → x ≡ cond s (2 ^ 63) 0 + r → r ≤ infinity → x % 2 ^ 63 ≡ r
-place-mod x true r e h = omega arith
-place-mod x false r e h = omega arith
+pub rankOf-mod : (x : ℕ) (s : Bool) (r : ℕ) → x ≡ cond s (2 ^ 63) 0 + r → r ≤ infinity → x % 2 ^ 63 ≡ r
+rankOf-mod x true r e h = omega arith
+rankOf-mod x false r e h = omega arith
 
 pub sign-test : (x : ℕ) (s : Bool) (r : ℕ) → x ≡ cond s (2 ^ 63) 0 + r → r ≤ infinity → leb (2 ^ 63) x ≡ s
 sign-test x true r e h = is-true (leb (2 ^ 63) x) (le→leb (2 ^ 63) x (omega arith))

@@ -18,7 +18,7 @@ use Rattle.exact.proofs.Compare.{le-exact, le-top, le-bottom}
 use Rattle.doubles.specs.Rank.{atRank, largest, infinity, double}
 use Rattle.doubles.specs.Directed.{withZero, roundUp, roundDown}
 use Rattle.doubles.proofs.Grid.{atRank-mono}
-use Rattle.doubles.proofs.Patterns.{place, ranked, exact-double, double-fits, double-sign}
+use Rattle.doubles.proofs.Patterns.{rankOf, ranked, exact-double, double-fits, double-sign}
 use Rattle.doubles.proofs.Zero.{withZero-own}
 use Rattle.doubles.proofs.Unique.{exact-unique}
 use Rattle.doubles.proofs.Directed.{round-up-law}
@@ -81,7 +81,7 @@ max-value = exact-double false largest (lit< tt)
 pub max-greatest : (x : Float) → T (finite x) → T (fits binary64 x) → exact x ≼ exact MAX
 max-greatest x f h =
     let X = ranked x f h in
-    subst (λ (z : ℤ). z ≼ exact MAX) (sym (X .value)) (subst (λ (z : ℤ). signed (sign x) (atRank 52 (place x)) ≼ z) (sym (max-value .1)) (signed-≼ (sign x) (atRank 52 (place x)) false (atRank 52 largest) .1 (go (sign x) (place x) (X .small))))
+    subst (λ (z : ℤ). z ≼ exact MAX) (sym (X .value)) (subst (λ (z : ℤ). signed (sign x) (atRank 52 (rankOf x)) ≼ z) (sym (max-value .1)) (signed-≼ (sign x) (atRank 52 (rankOf x)) false (atRank 52 largest) .1 (go (sign x) (rankOf x) (X .small))))
   where
     go : (s : Bool) (p : ℕ) → p < infinity → SignedLe s (atRank 52 p) false (atRank 52 largest)
     go true p h = omega arith

@@ -16,7 +16,7 @@ use Rattle.doubles.specs.Rank.{atRank, rankDown, rankUp, largest, infini
 use Rattle.doubles.specs.Directed.{withZero, roundUp}
 use Rattle.doubles.specs.Neighbours.{nextUp}
 use Rattle.doubles.proofs.Grid.{atRank-zero, atRank-step, rankDown-iff, rankUp-iff}
-use Rattle.doubles.proofs.Patterns.{place, placed, ranked, double-sign, double-infinity}
+use Rattle.doubles.proofs.Patterns.{rankOf, pattern, ranked, double-sign, double-infinity}
 use Rattle.doubles.proofs.Zero.{withZero-twice, withZero-own, withZero-rank}
 
 -- half a unit above a rank's value lies below the next rank's, and half a unit below it above the one before
@@ -73,7 +73,7 @@ step-value true (suc p) h z e =
     less : (v : ℕ) → 0 < v → negℤ (pos (v * 2)) +ℤ pos 1 ≡ negsuc (v * 2 - 2)
     less v h = simp differences (omega arith)
 
-pub next-step : (x : Float) → T (not (isNan x)) → T (fits binary64 x) → nextUp x ≡ stepUp (sign x) (place x)
+pub next-step : (x : Float) → T (not (isNan x)) → T (fits binary64 x) → nextUp x ≡ stepUp (sign x) (rankOf x)
 unfolding nextUp isNan
 next-step nan t h = absurd t
 next-step (inf false) t h = sym (double-infinity false)
@@ -81,7 +81,7 @@ next-step (inf true) t h = refl
 next-step (fin s m e) t h =
     let x = fin s m e in
     let X = ranked x tt h in
-    step-value s (place x) (X .small) (exactAt 1 x) (ap (λ (z : ℤ). z *ℤ pos 2) (X .value) ∙ signed-scale s (atRank 52 (place x)) 2)
+    step-value s (rankOf x) (X .small) (exactAt 1 x) (ap (λ (z : ℤ). z *ℤ pos 2) (X .value) ∙ signed-scale s (atRank 52 (rankOf x)) 2)
 
 -- ---- what each way through the code answers, b being the bits
 pub next-nan : (x : Float) → x ≡ nan → x ≡ nextUp x
@@ -126,16 +126,16 @@ module _ (x : Float) (t : T (not (isNan x))) (h : T (fits binary64 x)) where
   b = toBits binary64 x
 
   pub up-positive : (y : Float) → b < infinity → y ≡ double false (b + 1) → y ≡ nextUp x
-  up-positive y l e = let w = placed x t h in e ∙ step-up (sign x) (place x) b (w .bits) l ∙ sym (next-step x t h)
+  up-positive y l e = let w = pattern x t h in e ∙ step-up (sign x) (rankOf x) b (w .bits) l ∙ sym (next-step x t h)
 
   pub up-infinity : b ≡ infinity → x ≡ nextUp x
-  up-infinity l = let w = placed x t h in sym (ofBits-toBits binary64 x h) ∙ ap (ofBits binary64) l ∙ step-infinity (sign x) (place x) (sym l ∙ w .bits) ∙ sym (next-step x t h)
+  up-infinity l = let w = pattern x t h in sym (ofBits-toBits binary64 x h) ∙ ap (ofBits binary64) l ∙ step-infinity (sign x) (rankOf x) (sym l ∙ w .bits) ∙ sym (next-step x t h)
 
   pub up-minus-zero : (y : Float) → b ≡ 2 ^ 63 → y ≡ double false 1 → y ≡ nextUp x
-  up-minus-zero y l e = let w = placed x t h in e ∙ step-minus-zero (sign x) (place x) (sym l ∙ w .bits) (w .most) ∙ sym (next-step x t h)
+  up-minus-zero y l e = let w = pattern x t h in e ∙ step-minus-zero (sign x) (rankOf x) (sym l ∙ w .bits) (w .most) ∙ sym (next-step x t h)
 
   pub below-bits : infinity ≤ b → (b ≡ infinity → ⊥) → (b ≡ 2 ^ 63 → ⊥) → (2 ^ 63 < b) × (b - 2 ^ 63 - 1 ≤ infinity)
-  below-bits g i j = let w = placed x t h in below-zero (sign x) (place x) b (w .bits) (w .most) g i j
+  below-bits g i j = let w = pattern x t h in below-zero (sign x) (rankOf x) b (w .bits) (w .most) g i j
 
   pub up-negative : (y : Float) → infinity ≤ b → (b ≡ infinity → ⊥) → (b ≡ 2 ^ 63 → ⊥) → y ≡ double true (b - 2 ^ 63 - 1) → y ≡ nextUp x
-  up-negative y g i j e = let w = placed x t h in e ∙ step-down (sign x) (place x) b (w .bits) (w .most) (below-bits g i j .0) ∙ sym (next-step x t h)
+  up-negative y g i j e = let w = pattern x t h in e ∙ step-down (sign x) (rankOf x) b (w .bits) (w .most) (below-bits g i j .0) ∙ sym (next-step x t h)

@@ -10,7 +10,7 @@ use lib.Ieee.Scale.{finite}
 use Rattle.exact.specs.Value.{sign, magnitude}
 use Rattle.doubles.specs.Rank.{infinity, double}
 use Rattle.doubles.specs.Compare.{absolute}
-use Rattle.doubles.proofs.Patterns.{place, placed, place-mod, ranked, double-infinity}
+use Rattle.doubles.proofs.Patterns.{rankOf, pattern, rankOf-mod, ranked, double-infinity}
 
 -- a double that differs from itself is the NaN, and any other is none
 pub is-nan : (x : Float) → ne x x ≡ true → x ≡ nan
@@ -27,21 +27,21 @@ pub fit : (x : Float) → fits binary64 x ≡ true → T (fits binary64 x)
 fit x e = subst T (sym e) tt
 
 -- ---- the rank and the sign
-pub rank-bits : (x : Float) → T (not (isNan x)) → T (fits binary64 x) → toBits binary64 x % 2 ^ 63 ≡ place x
-rank-bits x t h = let w = placed x t h in place-mod (toBits binary64 x) (sign x) (place x) (w .bits) (w .most)
+pub rank-bits : (x : Float) → T (not (isNan x)) → T (fits binary64 x) → toBits binary64 x % 2 ^ 63 ≡ rankOf x
+rank-bits x t h = let w = pattern x t h in rankOf-mod (toBits binary64 x) (sign x) (rankOf x) (w .bits) (w .most)
 
 pub rank-most : (x : Float) → T (not (isNan x)) → T (fits binary64 x) → toBits binary64 x % 2 ^ 63 ≤ infinity
-rank-most x t h = subst (λ (n : ℕ). n ≤ infinity) (sym (rank-bits x t h)) (placed x t h .most)
+rank-most x t h = subst (λ (n : ℕ). n ≤ infinity) (sym (rank-bits x t h)) (pattern x t h .most)
 
 -- ---- finiteness
-by-place : (x : Float) → T (not (isNan x)) → T (fits binary64 x) → ltb (place x) infinity ≡ finite x
+finite-rankOf : (x : Float) → T (not (isNan x)) → T (fits binary64 x) → ltb (rankOf x) infinity ≡ finite x
 unfolding isNan
-by-place nan t h = absurd t
-by-place (inf s) t h = refl
-by-place (fin s m e) t h = is-true (ltb (place (fin s m e)) infinity) (lt→ltb (place (fin s m e)) infinity (ranked (fin s m e) tt h .small))
+finite-rankOf nan t h = absurd t
+finite-rankOf (inf s) t h = refl
+finite-rankOf (fin s m e) t h = is-true (ltb (rankOf (fin s m e)) infinity) (lt→ltb (rankOf (fin s m e)) infinity (ranked (fin s m e) tt h .small))
 
 pub finite-test : (x : Float) → T (not (isNan x)) → T (fits binary64 x) → ltb (toBits binary64 x % 2 ^ 63) infinity ≡ finite x
-finite-test x t h = ap (λ (n : ℕ). ltb n infinity) (rank-bits x t h) ∙ by-place x t h
+finite-test x t h = ap (λ (n : ℕ). ltb n infinity) (rank-bits x t h) ∙ finite-rankOf x t h
 
 -- ---- absolute value
 fits-sign : (s t : Bool) (m : ℕ) (e : _) → T (fits binary64 (fin s m e)) → T (fits binary64 (fin t m e))
@@ -49,11 +49,11 @@ unfolding fits
 fits-sign s t zero e h = h
 fits-sign s t (suc m) e h = h
 
-pub absolute-place : (x : Float) → T (not (isNan x)) → T (fits binary64 x) → double false (place x) ≡ absolute x
+pub absolute-rank : (x : Float) → T (not (isNan x)) → T (fits binary64 x) → double false (rankOf x) ≡ absolute x
 unfolding absolute isNan magnitude
-absolute-place nan t h = absurd t
-absolute-place (inf s) t h = double-infinity false
-absolute-place (fin s m e) t h = sym (placed (fin false m e) tt (fits-sign s false m e h) .same)
+absolute-rank nan t h = absurd t
+absolute-rank (inf s) t h = double-infinity false
+absolute-rank (fin s m e) t h = sym (pattern (fin false m e) tt (fits-sign s false m e h) .same)
 
 pub absolute-nan : (x : Float) → x ≡ nan → x ≡ absolute x
 unfolding absolute

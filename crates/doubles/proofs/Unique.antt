@@ -16,7 +16,7 @@ use Rattle.doubles.specs.Rank.{atRank, double}
 use Rattle.doubles.specs.Directed.{withZero}
 use Rattle.doubles.proofs.Grid.{atRank-lt, rank-atRank}
 use Rattle.doubles.proofs.Zero.{zero-plus}
-use Rattle.doubles.proofs.Patterns.{place, placed, ranked, finite-no-nan}
+use Rattle.doubles.proofs.Patterns.{rankOf, pattern, ranked, finite-no-nan}
 
 opposite : (s t : Bool) (v : ℕ) → 0 < v → signed s v ≡ signed t v → s ≡ t
 opposite true true v h e = refl
@@ -35,9 +35,9 @@ pub exact-unique : (x y : Float) → T (finite x) → T (fits binary64 x) → T 
 exact-unique x y f h g k e =
     let X = ranked x f h in
     let Y = ranked y g k in
-    let w : signed (sign x) (atRank 52 (place x)) ≡ signed (sign y) (atRank 52 (place y)) = sym (X .value) ∙ e ∙ Y .value in
-    let v : atRank 52 (place x) ≡ atRank 52 (place y) = sym (signed-abs (sign x) (atRank 52 (place x))) ∙ ap natAbs w ∙ signed-abs (sign y) (atRank 52 (place y)) in
-    let p : place x ≡ place y = sym (rank-atRank 52 (place x)) ∙ ap (Rattle.doubles.specs.Rank.rank 52) v ∙ rank-atRank 52 (place y) in
-    ap (withZero false) (placed x (finite-no-nan x f) h .same ∙ ap (double (sign x)) p)
-    ∙ by-rank (sign x) (sign y) (place y) (ap (λ (n : ℕ). signed (sign x) n) (sym v) ∙ w)
-    ∙ ap (withZero false) (sym (placed y (finite-no-nan y g) k .same))
+    let w : signed (sign x) (atRank 52 (rankOf x)) ≡ signed (sign y) (atRank 52 (rankOf y)) = sym (X .value) ∙ e ∙ Y .value in
+    let v : atRank 52 (rankOf x) ≡ atRank 52 (rankOf y) = sym (signed-abs (sign x) (atRank 52 (rankOf x))) ∙ ap natAbs w ∙ signed-abs (sign y) (atRank 52 (rankOf y)) in
+    let p : rankOf x ≡ rankOf y = sym (rank-atRank 52 (rankOf x)) ∙ ap (Rattle.doubles.specs.Rank.rank 52) v ∙ rank-atRank 52 (rankOf y) in
+    ap (withZero false) (pattern x (finite-no-nan x f) h .same ∙ ap (double (sign x)) p)
+    ∙ by-rank (sign x) (sign y) (rankOf y) (ap (λ (n : ℕ). signed (sign x) n) (sym v) ∙ w)
+    ∙ ap (withZero false) (sym (pattern y (finite-no-nan y g) k .same))

@@ -79,9 +79,9 @@ withZero-nonzero s (fin t (suc m) e) h = refl
 -- so of a rank above 0
 pub withZero-rank : (s t : Bool) (r : ℕ) → 0 < r → r ≤ infinity → withZero s (double t r) ≡ double t r
 withZero-rank s t r h k = elim (le-or-lt infinity r) [
-    | inl l ↦ ap (withZero s) (infinite-rank t r k l) ∙ sym (infinite-rank t r k l)
-    | inr l ↦ withZero-nonzero s (double t r) (positive l)
-  ]
+  | inl l ↦ ap (withZero s) (infinite-rank t r k l) ∙ sym (infinite-rank t r k l)
+  | inr l ↦ withZero-nonzero s (double t r) (positive l)
+]
   where
     positive : r < infinity → 0 < magnitude (double t r)
     positive l = omega (arith, magnitude-double t r l, atRank-lt 52 0 r h)

@@ -1,5 +1,5 @@
 -- `is_finite` meets its contract. Assumes nothing.
-use Rattle.doubles.proofs.Tests.{is-nan, not-nan, fit, rank-bits, rank-most, finite-test, absolute-place, absolute-nan}
+use Rattle.doubles.proofs.Tests.{is-nan, not-nan, fit, rank-bits, rank-most, finite-test, absolute-rank, absolute-nan}
 use lib.Ieee.Scale.{finite}
 use mathlib.Core.Path.{_≡_, refl, sym, ap, _∙_, subst}
 use Rattle.doubles.proofs.bits.is_finite.Statement.{statement}
