@@ -1,5 +1,5 @@
 -- The two bounds of a number with a sign, from the ranks between which its magnitude lies; and the sums and products that the code bounds. Assumes nothing.
-use mathlib.Core.Path.{_≡_, refl, sym, ap, _∙_, subst}
+use mathlib.Core.Path.{_≡_, refl, sym, ap, ap₂, _∙_, subst}
 use mathlib.Core.Logic.{_⊎_, inl, inr}
 use mathlib.Core.Bool.{Bool, true, false, not, cond, Bool·beq, true≢false}
 use Prim.Native.Nat.{ℕ, zero, suc, _+_, _-_, _*_, _%_, _^_, _≤_, _<_, min}
@@ -15,7 +15,8 @@ use Rattle.exact.proofs.Signed.{signed-zero, signed-+, signed--, signed-*}
 use Rattle.doubles.specs.Rank.{atRank, rankDown, rankUp, largest, infinity, double}
 use Rattle.doubles.specs.Directed.{withZero, roundDown, roundUp, sumWith, productWith}
 use Rattle.doubles.proofs.Grid.{atRank-zero, atRank-lt, atRank-step, rankUp-iff}
-use Rattle.doubles.proofs.Sums.{rankDown-between}
+use Rattle.doubles.proofs.RankSums.{rankDown-between}
+use Rattle.doubles.proofs.WideRanks.{RankBounds}
 use Rattle.doubles.proofs.Patterns.{rankOf, pattern, ranked, finite-no-nan, sign-test, rankOf-mod}
 use Rattle.doubles.proofs.Zero.{zero-plus}
 use Rattle.doubles.proofs.Mirror.{rankDown-zero, rankUp-zero}
@@ -33,37 +34,32 @@ down-signed l false n = refl
 down-signed l true zero = ap (λ (x : ℕ). withZero false (double true (min x infinity))) (rankUp-zero l) ∙ zero-plus true ∙ sym (ap (λ (x : ℕ). double false (min x largest)) (rankDown-zero l))
 down-signed l true (suc n) = refl
 
--- n lies between the ranks d and u
-pub record Between (l n d u : ℕ) : Type 0 where
-  pub lower : d ≡ min (rankDown 52 l n) largest
-  pub upper : u ≡ min (rankUp 52 l n) infinity
-
 abbrev pub Spread : Bool → ℕ → ℕ → Float → Float → Type 0
 Spread s d u x y = (x ≡ cond s (withZero false (double true u)) (double false d)) × (y ≡ cond s (withZero false (double true d)) (double false u))
 
 abbrev pub Bounds : ℕ → ℤ → Float → Float → Type 0
 Bounds l z x y = (x ≡ roundDown l z) × (y ≡ roundUp l z)
 
-pub bounds : (l : ℕ) (s : Bool) (n d u : ℕ) (x y : Float) (z : ℤ) → Between l n d u → z ≡ signed s n → Spread s d u x y → Bounds l z x y
-bounds l s n d u x y z B e h = (
+pub bounds : (l : ℕ) (s : Bool) (n : ℕ) {d u : ℕ} {x y : Float} {z : ℤ} → RankBounds l n d u → z ≡ signed s n → Spread s d u x y → Bounds l z x y
+bounds l s n {d} {u} B e h = (
   h .0
-      ∙ ap (λ (r : ℕ). cond s (withZero false (double true r)) (double false d)) (B .upper)
-      ∙ ap (λ (r : ℕ). cond s (withZero false (double true (min (rankUp 52 l n) infinity))) (double false r)) (B .lower)
+      ∙ ap (λ (r : ℕ). cond s (withZero false (double true r)) (double false d)) (B .1)
+      ∙ ap (λ (r : ℕ). cond s (withZero false (double true (min (rankUp 52 l n) infinity))) (double false r)) (B .0)
       ∙ down-signed l s n
       ∙ sym (ap (roundDown l) e),
   h .1
-      ∙ ap (λ (r : ℕ). cond s (withZero false (double true r)) (double false u)) (B .lower)
-      ∙ ap (λ (r : ℕ). cond s (withZero false (double true (min (rankDown 52 l n) largest))) (double false r)) (B .upper)
+      ∙ ap (λ (r : ℕ). cond s (withZero false (double true r)) (double false u)) (B .0)
+      ∙ ap (λ (r : ℕ). cond s (withZero false (double true (min (rankDown 52 l n) largest))) (double false r)) (B .1)
       ∙ up-signed l s n
       ∙ sym (ap (roundUp l) e),
 )
 
-pub between-zero : (l : ℕ) → Between l 0 0 0
-between-zero l = record { lower = sym (ap (λ (x : ℕ). min x largest) (rankDown-zero l)); upper = sym (ap (λ (x : ℕ). min x infinity) (rankUp-zero l)) }
+pub between-zero : (l : ℕ) → RankBounds l 0 0 0
+between-zero l = (sym (ap (λ (x : ℕ). min x largest) (rankDown-zero l)), sym (ap (λ (x : ℕ). min x infinity) (rankUp-zero l)))
 
 -- a double lies between itself and itself
-pub between-self : (r : ℕ) → r < infinity → Between 0 (atRank 52 r) r r
-between-self r h = record { lower = lower r (rankDown 52 0 (atRank 52 r)) h (rankDown-between r (atRank 52 r) (le-refl (atRank 52 r)) (atRank-step 52 r)); upper = upper r (rankUp 52 0 (atRank 52 r)) h same }
+pub between-self : (r : ℕ) → r < infinity → RankBounds 0 (atRank 52 r) r r
+between-self r h = (lower r (rankDown 52 0 (atRank 52 r)) h (rankDown-between r (atRank 52 r) (le-refl (atRank 52 r)) (atRank-step 52 r)), upper r (rankUp 52 0 (atRank 52 r)) h same)
   where
     lower : (r x : ℕ) → r < infinity → x ≡ r → r ≡ min x largest
     lower r x h e = omega arith
@@ -122,24 +118,25 @@ parts a f h =
       value = X .value ∙ ap (λ (x : ℕ). signed (sign a) (atRank 52 x)) (sym p) ∙ ap (λ (s : Bool). signed s (atRank 52 (toBits binary64 a % 2 ^ 63))) (sym (sign-test (toBits binary64 a) (sign a) (rankOf a) (w .bits) (w .most)));
     }
 
-pub parts-sum : (a b : Float) (r t : ℕ) (s n : Bool) → Parts a r s → Parts b t n → exact a +ℤ exact b ≡ signed s (atRank 52 r) +ℤ signed n (atRank 52 t)
-parts-sum a b r t s n A B = ap (λ (z : ℤ). z +ℤ exact b) (A .value) ∙ ap (λ (z : ℤ). signed s (atRank 52 r) +ℤ z) (B .value)
+module _ {a b : Float} {r t : ℕ} {s n : Bool} (A : Parts a r s) (B : Parts b t n) where
+  pub parts-sum : exact a +ℤ exact b ≡ signed s (atRank 52 r) +ℤ signed n (atRank 52 t)
+  parts-sum = ap₂ _+ℤ_ (A .value) (B .value)
 
-pub parts-product : (a b : Float) (r t : ℕ) (s n : Bool) → Parts a r s → Parts b t n → exact a *ℤ exact b ≡ signed (unlike s n) (atRank 52 r * atRank 52 t)
-parts-product a b r t s n A B = ap (λ (z : ℤ). z *ℤ exact b) (A .value) ∙ ap (λ (z : ℤ). signed s (atRank 52 r) *ℤ z) (B .value) ∙ signed-* s n (atRank 52 r) (atRank 52 t)
+  pub parts-product : exact a *ℤ exact b ≡ signed (unlike s n) (atRank 52 r * atRank 52 t)
+  parts-product = ap₂ _*ℤ_ (A .value) (B .value) ∙ signed-* s n (atRank 52 r) (atRank 52 t)
+
+  product-none : atRank 52 r * atRank 52 t ≡ 0 → exact a *ℤ exact b ≡ signed false 0
+  product-none e = parts-product ∙ ap (signed (unlike s n)) e ∙ signed-zero (unlike s n)
+
+  pub product-zero-l : r ≡ 0 → exact a *ℤ exact b ≡ signed false 0
+  product-zero-l e = product-none (ap (λ (x : ℕ). x * atRank 52 t) (ap (atRank 52) e ∙ atRank-zero) ∙ zero-mul (atRank 52 t))
+
+  pub product-zero-r : t ≡ 0 → exact a *ℤ exact b ≡ signed false 0
+  product-zero-r e = product-none (ap (λ (x : ℕ). atRank 52 r * x) (ap (atRank 52) e ∙ atRank-zero) ∙ mul-zero (atRank 52 r))
 
 -- the same bounds of an equal number
-pub bounds-of : (l : ℕ) (z w : ℤ) (x y : Float) → z ≡ w → Bounds l w x y → Bounds l z x y
-bounds-of l z w x y e h = (h .0 ∙ sym (ap (roundDown l) e), h .1 ∙ sym (ap (roundUp l) e))
-
-none-of : (s : Bool) (n : ℕ) → n ≡ 0 → signed s n ≡ signed false 0
-none-of s n e = ap (signed s) e ∙ signed-zero s
-
-pub product-zero-l : (a b : Float) (r t : ℕ) (s n : Bool) → Parts a r s → Parts b t n → r ≡ 0 → exact a *ℤ exact b ≡ signed false 0
-product-zero-l a b r t s n A B e = parts-product a b r t s n A B ∙ none-of (unlike s n) (atRank 52 r * atRank 52 t) (ap (λ (x : ℕ). x * atRank 52 t) (ap (atRank 52) e ∙ atRank-zero) ∙ zero-mul (atRank 52 t))
-
-pub product-zero-r : (a b : Float) (r t : ℕ) (s n : Bool) → Parts a r s → Parts b t n → t ≡ 0 → exact a *ℤ exact b ≡ signed false 0
-product-zero-r a b r t s n A B e = parts-product a b r t s n A B ∙ none-of (unlike s n) (atRank 52 r * atRank 52 t) (ap (λ (x : ℕ). atRank 52 r * x) (ap (atRank 52) e ∙ atRank-zero) ∙ mul-zero (atRank 52 r))
+pub bounds-of : (l : ℕ) {z w : ℤ} {x y : Float} → z ≡ w → Bounds l w x y → Bounds l z x y
+bounds-of l e h = (h .0 ∙ sym (ap (roundDown l) e), h .1 ∙ sym (ap (roundUp l) e))
 
 -- ---- operands that are not finite
 pub sum-stays : (f : ℤ → Float) (a b : Float) → finite a ≡ false → a ≡ sumWith f a b

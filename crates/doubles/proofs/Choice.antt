@@ -15,8 +15,63 @@ use Rattle.exact.proofs.Order.{≼-or-≺}
 use Rattle.exact.proofs.Compare.{lt-of, lt-exact, le-exact, le-top, le-bottom}
 use Rattle.doubles.specs.Compare.{absolute, larger, smaller}
 use Rattle.doubles.proofs.Patterns.{rankOf, finite-no-nan}
-use Rattle.doubles.proofs.Keys.{key, lt-key, chosen-nan, chosen-is, lt-nan-l, lt-nan-r, larger-is, smaller-is}
+use Rattle.doubles.proofs.Keys.{key, lt-key}
 
+-- ---- b where a is a NaN or the test passes, otherwise a: `larger` and `smaller` differ in the test
+abbrev chosen : Bool → Float → Float → Float
+chosen q a b = cond (isNan a) b (cond q b a)
+
+chosen-nan : (q : Bool) (a b : Float) → a ≡ nan → b ≡ chosen q a b
+unfolding isNan
+chosen-nan q a b e = sym (ap (λ (x : Float). chosen q x b) e)
+
+chosen-is : {q r : Bool} (a b : Float) → T (not (isNan a)) → q ≡ r → cond r b a ≡ chosen q a b
+chosen-is {q} {r} a b t e = sym (ap (λ (n : Bool). cond n b (cond q b a)) (is-false (isNan a) t) ∙ ap (λ (n : Bool). cond n b a) e)
+
+pub larger-nan : (a b : Float) → a ≡ nan → b ≡ larger a b
+unfolding larger
+larger-nan a b = chosen-nan (lt a b) a b
+
+pub larger-by : {r : Bool} (a b : Float) → T (not (isNan a)) → lt a b ≡ r → cond r b a ≡ larger a b
+unfolding larger
+larger-by a b = chosen-is a b
+
+pub smaller-nan : (a b : Float) → a ≡ nan → b ≡ smaller a b
+unfolding smaller
+smaller-nan a b = chosen-nan (lt b a) a b
+
+pub smaller-by : {r : Bool} (a b : Float) → T (not (isNan a)) → lt b a ≡ r → cond r b a ≡ smaller a b
+unfolding smaller
+smaller-by a b = chosen-is a b
+
+-- no comparison with a NaN is true
+pub lt-nan-r : (a b : Float) → b ≡ nan → lt a b ≡ false
+unfolding lt
+lt-nan-r a b e = ap (lt a) e ∙ go a
+  where
+    go : (a : Float) → lt a nan ≡ false
+    go nan = refl
+    go (inf s) = refl
+    go (fin s m d) = refl
+
+pub lt-nan-l : (a b : Float) → a ≡ nan → lt a b ≡ false
+unfolding lt
+lt-nan-l a b e = ap (λ (x : Float). lt x b) e
+
+-- with one NaN the other
+pub larger-nan-l : (b : Float) → larger nan b ≡ b
+larger-nan-l b = sym (larger-nan nan b refl)
+
+pub larger-nan-r : (a : Float) → T (not (isNan a)) → larger a nan ≡ a
+larger-nan-r a t = sym (larger-by a nan t (lt-nan-r a nan refl))
+
+pub smaller-nan-l : (b : Float) → smaller nan b ≡ b
+smaller-nan-l b = sym (smaller-nan nan b refl)
+
+pub smaller-nan-r : (a : Float) → T (not (isNan a)) → smaller a nan ≡ a
+smaller-nan-r a t = sym (smaller-by a nan t (lt-nan-l nan a refl))
+
+-- ---- the order
 -- what is not less is not below
 pub le-of-not-lt : (a b : Float) → T (not (isNan a)) → T (not (isNan b)) → T (fits binary64 a) → T (fits binary64 b) → lt b a ≡ false → T (le a b)
 unfolding isNan lt
@@ -54,10 +109,10 @@ module _ (a b : Float) (t : T (not (isNan a))) (u : T (not (isNan b))) (h : T (f
     where
       go : (q : Bool) → lt a b ≡ q → T (le a (larger a b)) × T (le b (larger a b))
       go true e =
-          let is = chosen-is (lt a b) true a b t e ∙ larger-is a b in
+          let is = larger-by a b t e in
           (subst (λ (x : Float). T (le a x)) is (le-of-not-lt a b t u h k (lt-asym a b t u h k e)), subst (λ (x : Float). T (le b x)) is (le-of-not-lt b b u u k k (lt-irrefl b u k)))
       go false e =
-          let is = chosen-is (lt a b) false a b t e ∙ larger-is a b in
+          let is = larger-by a b t e in
           (subst (λ (x : Float). T (le a x)) is (le-of-not-lt a a t t h h (lt-irrefl a t h)), subst (λ (x : Float). T (le b x)) is (le-of-not-lt b a u t k h e))
 
   -- ---- `smaller` is one of the two, and neither is below it
@@ -66,29 +121,16 @@ module _ (a b : Float) (t : T (not (isNan a))) (u : T (not (isNan b))) (h : T (f
     where
       go : (q : Bool) → lt b a ≡ q → T (le (smaller a b) a) × T (le (smaller a b) b)
       go true e =
-          let is = chosen-is (lt b a) true a b t e ∙ smaller-is a b in
+          let is = smaller-by a b t e in
           (subst (λ (x : Float). T (le x a)) is (le-of-not-lt b a u t k h (lt-asym b a u t k h e)), subst (λ (x : Float). T (le x b)) is (le-of-not-lt b b u u k k (lt-irrefl b u k)))
       go false e =
-          let is = chosen-is (lt b a) false a b t e ∙ smaller-is a b in
+          let is = smaller-by a b t e in
           (subst (λ (x : Float). T (le x a)) is (le-of-not-lt a a t t h h (lt-irrefl a t h)), subst (λ (x : Float). T (le x b)) is (le-of-not-lt a b t u h k e))
-
--- with one NaN the other
-pub larger-nan-l : (b : Float) → larger nan b ≡ b
-larger-nan-l b = sym (chosen-nan (lt nan b) nan b refl ∙ larger-is nan b)
-
-pub larger-nan-r : (a : Float) → T (not (isNan a)) → larger a nan ≡ a
-larger-nan-r a t = sym (chosen-is (lt a nan) false a nan t (lt-nan-r a nan refl) ∙ larger-is a nan)
-
-pub smaller-nan-l : (b : Float) → smaller nan b ≡ b
-smaller-nan-l b = sym (chosen-nan (lt b nan) nan b refl ∙ smaller-is nan b)
-
-pub smaller-nan-r : (a : Float) → T (not (isNan a)) → smaller a nan ≡ a
-smaller-nan-r a t = sym (chosen-is (lt nan a) false a nan t (lt-nan-l nan a refl) ∙ smaller-is a nan)
 
 -- ---- among finite values
 pub larger-exact : (a b : Float) → T (finite a) → T (finite b) → T (fits binary64 a) → T (fits binary64 b) → exact (larger a b) ≡ maxℤ (exact a) (exact b)
 unfolding maxℤ
-larger-exact a b f g h k = sym (ap exact (chosen-is (lt a b) (ltZ (exact a) (exact b)) a b (finite-no-nan a f) (lt-exact a b f g h k) ∙ larger-is a b)) ∙ through (ltZ (exact a) (exact b))
+larger-exact a b f g h k = sym (ap exact (larger-by a b (finite-no-nan a f) (lt-exact a b f g h k))) ∙ through (ltZ (exact a) (exact b))
   where
     through : (q : Bool) → exact (cond q b a) ≡ cond q (exact b) (exact a)
     through true = refl

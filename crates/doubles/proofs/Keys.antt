@@ -14,7 +14,6 @@ use Rattle.exact.proofs.Naturals.{le-or-lt}
 use Rattle.exact.proofs.Signed.{SignedLt, signed-≺}
 use Rattle.exact.proofs.Compare.{same-bool, lt-to, lt-of}
 use Rattle.doubles.specs.Rank.{atRank, infinity}
-use Rattle.doubles.specs.Compare.{larger, smaller}
 use Rattle.doubles.proofs.Grid.{atRank-zero, atRank-lt, atRank-mono}
 use Rattle.doubles.proofs.Patterns.{rankOf, pattern, ranked, sign-test}
 
@@ -22,9 +21,11 @@ abbrev pub key : Bool → ℕ → ℕ
 key false p = 2 ^ 63 + p
 key true p = 2 ^ 63 - p
 
--- as the code finds it
-pub key-bits : (x : Float) → T (not (isNan x)) → T (fits binary64 x)
-    → cond (leb (2 ^ 63) (toBits binary64 x)) (2 ^ 63 - (toBits binary64 x - 2 ^ 63)) (2 ^ 63 + toBits binary64 x) ≡ key (sign x) (rankOf x)
+-- as the code finds it from the bits
+abbrev pub orderOf : ℕ → ℕ
+orderOf b = cond (leb (2 ^ 63) b) (2 ^ 63 - (b - 2 ^ 63)) (2 ^ 63 + b)
+
+key-bits : (x : Float) → T (not (isNan x)) → T (fits binary64 x) → orderOf (toBits binary64 x) ≡ key (sign x) (rankOf x)
 key-bits x t h =
     let w = pattern x t h in
     let b = toBits binary64 x in
@@ -102,59 +103,12 @@ lt-key (fin s m e) (inf true) t u h k = not-lowest s (rankOf (fin s m e)) (ranke
 lt-key (fin s m e) (inf false) t u h k = highest s (rankOf (fin s m e)) (ranked (fin s m e) tt h .small)
 lt-key (fin s m e) (fin r n d) t u h k = finite-key (fin s m e) (fin r n d) tt tt h k
 
--- ---- the choice of the code
-abbrev pub orderOf : ℕ → ℕ
-orderOf b = cond (leb (2 ^ 63) b) (2 ^ 63 - (b - 2 ^ 63)) (2 ^ 63 + b)
-
+-- ---- the way of the code to the key
 pub order-low : (b : ℕ) → b < 2 ^ 63 → 2 ^ 63 + b ≡ orderOf b
 order-low b h = sym (ap (λ (s : Bool). cond s (2 ^ 63 - (b - 2 ^ 63)) (2 ^ 63 + b)) (is-false (leb (2 ^ 63) b) (not-T (leb (2 ^ 63) b) (λ t. not-le-of-lt h (leb→le (2 ^ 63) b t)))))
 
 pub order-high : (b : ℕ) → 2 ^ 63 ≤ b → 2 ^ 63 - (b - 2 ^ 63) ≡ orderOf b
 order-high b h = sym (ap (λ (s : Bool). cond s (2 ^ 63 - (b - 2 ^ 63)) (2 ^ 63 + b)) (is-true (leb (2 ^ 63) b) (le→leb (2 ^ 63) b h)))
-
-module _ (a b : Float) (t : T (not (isNan a))) (u : T (not (isNan b))) (h : T (fits binary64 a)) (k : T (fits binary64 b)) (x y : ℕ)
-    (X : x ≡ orderOf (toBits binary64 a)) (Y : y ≡ orderOf (toBits binary64 b)) where
-  lt-order : ltb x y ≡ lt a b
-  lt-order = ap (λ (n : ℕ). ltb n y) (X ∙ key-bits a t h) ∙ ap (ltb (key (sign a) (rankOf a))) (Y ∙ key-bits b u k) ∙ lt-key a b t u h k
-
-  pub order-lt : x < y → lt a b ≡ true
-  order-lt l = sym lt-order ∙ yes-less x y l
-
-  pub order-le : y ≤ x → lt a b ≡ false
-  order-le l = sym lt-order ∙ not-less x y l
-
--- b where a is a NaN or the test passes, otherwise a: `larger` and `smaller` by their tests
-abbrev pub chosen : Bool → Float → Float → Float
-chosen q a b = cond (isNan a) b (cond q b a)
-
-pub chosen-nan : (q : Bool) (a b : Float) → a ≡ nan → b ≡ chosen q a b
-unfolding isNan
-chosen-nan q a b e = sym (ap (λ (x : Float). chosen q x b) e)
-
-pub chosen-is : (q r : Bool) (a b : Float) → T (not (isNan a)) → q ≡ r → cond r b a ≡ chosen q a b
-chosen-is q r a b t e = sym (ap (λ (n : Bool). cond n b (cond q b a)) (is-false (isNan a) t) ∙ ap (λ (n : Bool). cond n b a) e)
-
--- no comparison with a NaN is true
-pub lt-nan-r : (a b : Float) → b ≡ nan → lt a b ≡ false
-unfolding lt
-lt-nan-r a b e = ap (lt a) e ∙ go a
-  where
-    go : (a : Float) → lt a nan ≡ false
-    go nan = refl
-    go (inf s) = refl
-    go (fin s m d) = refl
-
-pub lt-nan-l : (a b : Float) → a ≡ nan → lt a b ≡ false
-unfolding lt
-lt-nan-l a b e = ap (λ (x : Float). lt x b) e
-
-pub larger-is : (a b : Float) → chosen (lt a b) a b ≡ larger a b
-unfolding larger
-larger-is a b = refl
-
-pub smaller-is : (a b : Float) → chosen (lt b a) a b ≡ smaller a b
-unfolding smaller
-smaller-is a b = refl
 
 -- the code's differences stay above 0
 pub order-room : (x : Float) → T (not (isNan x)) → T (fits binary64 x) → toBits binary64 x - 2 ^ 63 ≤ 2 ^ 63
@@ -163,3 +117,25 @@ order-room x t h = let w = pattern x t h in go (sign x) (toBits binary64 x) (ran
     go : (s : Bool) (b p : ℕ) → b ≡ cond s (2 ^ 63) 0 + p → p ≤ infinity → b - 2 ^ 63 ≤ 2 ^ 63
     go true b p e h = omega arith
     go false b p e h = omega arith
+
+-- x and y are the keys of two numbers a and b
+pub record Ordered (a b : Float) (x y : ℕ) : Type 0 where
+  pub first : T (not (isNan a))
+  pub second : T (not (isNan b))
+  pub first-fits : T (fits binary64 a)
+  pub second-fits : T (fits binary64 b)
+  pub first-key : x ≡ orderOf (toBits binary64 a)
+  pub second-key : y ≡ orderOf (toBits binary64 b)
+
+module _ {a b : Float} {x y : ℕ} (o : Ordered a b x y) where
+  lt-order : ltb x y ≡ lt a b
+  lt-order =
+      ap (λ (n : ℕ). ltb n y) (o .first-key ∙ key-bits a (o .first) (o .first-fits))
+      ∙ ap (ltb (key (sign a) (rankOf a))) (o .second-key ∙ key-bits b (o .second) (o .second-fits))
+      ∙ lt-key a b (o .first) (o .second) (o .first-fits) (o .second-fits)
+
+  pub order-lt : x < y → lt a b ≡ true
+  order-lt l = sym lt-order ∙ yes-less x y l
+
+  pub order-le : y ≤ x → lt a b ≡ false
+  order-le l = sym lt-order ∙ not-less x y l

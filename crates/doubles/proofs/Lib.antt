@@ -1,8 +1,9 @@
 pub mod Grid
 pub mod TwoWords
 pub mod Shift
-pub mod Ranked
-pub mod Sums
+pub mod WideRanks
+pub mod RankFields
+pub mod RankSums
 pub mod Patterns
 pub mod Zero
 pub mod Directed

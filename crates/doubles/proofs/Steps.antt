@@ -16,7 +16,7 @@ use Rattle.doubles.specs.Rank.{atRank, rankDown, rankUp, largest, infini
 use Rattle.doubles.specs.Directed.{withZero, roundUp}
 use Rattle.doubles.specs.Neighbours.{nextUp}
 use Rattle.doubles.proofs.Grid.{atRank-zero, atRank-step, rankDown-iff, rankUp-iff}
-use Rattle.doubles.proofs.Patterns.{rankOf, pattern, ranked, double-sign, double-infinity}
+use Rattle.doubles.proofs.Patterns.{Pattern, rankOf, pattern, ranked, double-sign, double-infinity}
 use Rattle.doubles.proofs.Zero.{withZero-twice, withZero-own, withZero-rank}
 
 -- half a unit above a rank's value lies below the next rank's, and half a unit below it above the one before
@@ -121,21 +121,31 @@ below-zero : (s : Bool) (p b : ℕ) → b ≡ cond s (2 ^ 63) 0 + p → p ≤ in
 below-zero true p b e h g i j = omega arith
 below-zero false p b e h g i j = omega arith
 
-module _ (x : Float) (t : T (not (isNan x))) (h : T (fits binary64 x)) where
+pub record Number (x : Float) : Type 0 where
+  pub no-nan : T (not (isNan x))
+  pub fit : T (fits binary64 x)
+
+module _ {x : Float} (n : Number x) where
   abbrev b : ℕ
   b = toBits binary64 x
 
-  pub up-positive : (y : Float) → b < infinity → y ≡ double false (b + 1) → y ≡ nextUp x
-  up-positive y l e = let w = pattern x t h in e ∙ step-up (sign x) (rankOf x) b (w .bits) l ∙ sym (next-step x t h)
+  w : Pattern x
+  w = pattern x (n .no-nan) (n .fit)
+
+  step : stepUp (sign x) (rankOf x) ≡ nextUp x
+  step = sym (next-step x (n .no-nan) (n .fit))
+
+  pub up-positive : {y : Float} → b < infinity → y ≡ double false (b + 1) → y ≡ nextUp x
+  up-positive l e = e ∙ step-up (sign x) (rankOf x) b (w .bits) l ∙ step
 
   pub up-infinity : b ≡ infinity → x ≡ nextUp x
-  up-infinity l = let w = pattern x t h in sym (ofBits-toBits binary64 x h) ∙ ap (ofBits binary64) l ∙ step-infinity (sign x) (rankOf x) (sym l ∙ w .bits) ∙ sym (next-step x t h)
+  up-infinity l = sym (ofBits-toBits binary64 x (n .fit)) ∙ ap (ofBits binary64) l ∙ step-infinity (sign x) (rankOf x) (sym l ∙ w .bits) ∙ step
 
-  pub up-minus-zero : (y : Float) → b ≡ 2 ^ 63 → y ≡ double false 1 → y ≡ nextUp x
-  up-minus-zero y l e = let w = pattern x t h in e ∙ step-minus-zero (sign x) (rankOf x) (sym l ∙ w .bits) (w .most) ∙ sym (next-step x t h)
+  pub up-minus-zero : {y : Float} → b ≡ 2 ^ 63 → y ≡ double false 1 → y ≡ nextUp x
+  up-minus-zero l e = e ∙ step-minus-zero (sign x) (rankOf x) (sym l ∙ w .bits) (w .most) ∙ step
 
   pub below-bits : infinity ≤ b → (b ≡ infinity → ⊥) → (b ≡ 2 ^ 63 → ⊥) → (2 ^ 63 < b) × (b - 2 ^ 63 - 1 ≤ infinity)
-  below-bits g i j = let w = pattern x t h in below-zero (sign x) (rankOf x) b (w .bits) (w .most) g i j
+  below-bits g i j = below-zero (sign x) (rankOf x) b (w .bits) (w .most) g i j
 
-  pub up-negative : (y : Float) → infinity ≤ b → (b ≡ infinity → ⊥) → (b ≡ 2 ^ 63 → ⊥) → y ≡ double true (b - 2 ^ 63 - 1) → y ≡ nextUp x
-  up-negative y g i j e = let w = pattern x t h in e ∙ step-down (sign x) (rankOf x) b (w .bits) (w .most) (below-bits g i j .0) ∙ sym (next-step x t h)
+  pub up-negative : {y : Float} → infinity ≤ b → (b ≡ infinity → ⊥) → (b ≡ 2 ^ 63 → ⊥) → y ≡ double true (b - 2 ^ 63 - 1) → y ≡ nextUp x
+  up-negative g i j e = e ∙ step-down (sign x) (rankOf x) b (w .bits) (w .most) (below-bits g i j .0) ∙ step

@@ -60,10 +60,10 @@ unfolding absolute
 absolute-nan x e = e ∙ sym (ap absolute e)
 
 -- the answer r of `is_finite`, tested as `!r`
-pub not-finite : (a : Float) (r : Bool) → r ≡ finite a → not r ≡ true → finite a ≡ false
-not-finite a true e h = absurd (true≢false (sym h))
-not-finite a false e h = sym e
+pub not-finite : (a : Float) {r : Bool} → r ≡ finite a → not r ≡ true → finite a ≡ false
+not-finite a {r = true} e h = absurd (true≢false (sym h))
+not-finite a {r = false} e h = sym e
 
-pub still-finite : (a : Float) (r : Bool) → r ≡ finite a → not r ≡ false → T (finite a)
-still-finite a true e h = subst T e tt
-still-finite a false e h = absurd (true≢false h)
+pub still-finite : (a : Float) {r : Bool} → r ≡ finite a → not r ≡ false → T (finite a)
+still-finite a {r = true} e h = subst T e tt
+still-finite a {r = false} e h = absurd (true≢false h)

@@ -1,5 +1,5 @@
-//! Magnitudes rounded outward to ranks. A rank is the exponent field times 2^52 and the digits, so a digit more carries into
-//! the exponent by itself, and subnormals and overflow need no case.
+//! Magnitudes rounded outward to ranks. A rank is the exponent times 2^52 and the significand, so a significand that is one
+//! more carries into the exponent by itself, and subnormals and overflow need no case.
 ghost use mathlib.Core.Path.{_≡_};
 ghost use Prim.Native.Nat.{_+_, _-_, _*_, _/_, _^_, _<_, _≤_, min};
 ghost use Rattle.doubles.specs.Rank.{atRank, infinity, largest, rankDown, rankUp};
@@ -7,7 +7,7 @@ use crate::words::times;
 use crate::words::width;
 use crate::words::without;
 
-/// One exponent field.
+/// What one more in the exponent adds to a rank: 2^52.
 const FIELD: u64 = 0x10_0000_0000_0000;
 
 /// The ranks of a lower and an upper bound.
@@ -23,7 +23,7 @@ fn beyond(e: u64, l: u64) -> u64
     if e > l { e - l } else { 0 }
 }
 
-/// The ranks `r` and `r + d`, or those of the largest double and of the infinity.
+/// The ranks `r` and `r + d`, or those of the largest double and of the infinity where `r` is past the finite ones.
 fn capped(r: u64, d: u64) -> Ranks
     requires { ⌜ d ≤ 1 ⌝ }
     ensures { λ x. ⌜ (x .down ≡ min r largest) × (x .up ≡ min (r + d) infinity) ⌝ }
@@ -38,16 +38,16 @@ fn capped(r: u64, d: u64) -> Ranks
     }
 }
 
-/// How many binary digits 0 the rank `r` puts after its digits.
-fn field(r: u64) -> u64
+/// How many binary digits 0 stand after the significand at rank `r`.
+fn exponent(r: u64) -> u64
     ensures { λ k. ⌜ k ≡ r / 2 ^ 52 - 1 ⌝ }
 {
     let k = r / FIELD;
     if k > 0 { k - 1 } else { 0 }
 }
 
-/// The bounds of a number of two words with `s` binary digits 0 after it, in units of 2^-(1074 + l): the place of its
-/// highest set bit says how many digits are cut off.
+/// The bounds of a number of two words with `s` binary digits 0 after it, in units of 2^-(1074 + l): its width gives the
+/// exponent `k` of both ranks, and so how many digits are cut off.
 fn wide_ranks(hi: u64, lo: u64, s: u64, l: u64) -> Ranks
     requires { ⌜ (0 < hi * 2 ^ 64 + lo) × (hi < 2 ^ 56) × (s ≤ 2046 + l + l) × (l ≤ 1074) ⌝ }
     ensures { λ r. ⌜ (r .down ≡ min (rankDown 52 l ((hi * 2 ^ 64 + lo) * 2 ^ s)) largest) × (r .up ≡ min (rankUp 52 l ((hi * 2 ^ 64 + lo) * 2 ^ s)) infinity) ⌝ }
@@ -80,18 +80,19 @@ pub(crate) fn rank_product(r: u64, t: u64) -> Ranks
     requires { ⌜ (0 < r) × (r < infinity) × (0 < t) × (t < infinity) ⌝ }
     ensures { λ x. ⌜ (x .down ≡ min (rankDown 52 1074 (atRank 52 r * atRank 52 t)) largest) × (x .up ≡ min (rankUp 52 1074 (atRank 52 r * atRank 52 t)) infinity) ⌝ }
 {
-    let j = field(r);
-    let k = field(t);
+    let j = exponent(r);
+    let k = exponent(t);
     product_ranks(r - j * FIELD, t - k * FIELD, j + k)
 }
 
-/// The bounds of the sum of two doubles above 0, by their ranks. A second one far below the first only moves the upper bound.
+/// The bounds of the sum of two doubles above 0, by their ranks. A second one far below the first only moves the upper bound,
+/// and a near one is added in two words, at its own exponent.
 pub(crate) fn rank_sum(r: u64, t: u64) -> Ranks
     requires { ⌜ (0 < t) × (t ≤ r) × (r < infinity) ⌝ }
     ensures { λ x. ⌜ (x .down ≡ min (rankDown 52 0 (atRank 52 r + atRank 52 t)) largest) × (x .up ≡ min (rankUp 52 0 (atRank 52 r + atRank 52 t)) infinity) ⌝ }
 {
-    let j = field(r);
-    let k = field(t);
+    let j = exponent(r);
+    let k = exponent(t);
     let d = j - k;
     if d > 55 {
         return capped(r, 1);
@@ -108,13 +109,13 @@ pub(crate) fn rank_sum(r: u64, t: u64) -> Ranks
     }
 }
 
-/// The bounds of the difference of two doubles above 0, by their ranks.
+/// The bounds of the difference of two doubles above 0, by their ranks: as for the sum, but a far one moves the lower bound.
 pub(crate) fn rank_difference(r: u64, t: u64) -> Ranks
     requires { ⌜ (0 < t) × (t < r) × (r < infinity) ⌝ }
     ensures { λ x. ⌜ (x .down ≡ min (rankDown 52 0 (atRank 52 r - atRank 52 t)) largest) × (x .up ≡ min (rankUp 52 0 (atRank 52 r - atRank 52 t)) infinity) ⌝ }
 {
-    let j = field(r);
-    let k = field(t);
+    let j = exponent(r);
+    let k = exponent(t);
     let d = j - k;
     if d > 55 {
         return capped(r - 1, 1);

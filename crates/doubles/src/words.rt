@@ -31,7 +31,7 @@ pub(crate) fn times(u: u64, v: u64) -> Wide
     Wide { hi: hi, lo: lo }
 }
 
-/// How many binary digits a number of two words has: one more than the place of its highest set bit.
+/// How many binary digits a number of two words has.
 pub(crate) fn width(hi: u64, lo: u64) -> u64
     ensures { λ r. ⌜ r ≡ size (hi * 2 ^ 64 + lo) ⌝ }
 {
@@ -42,15 +42,15 @@ pub(crate) fn width(hi: u64, lo: u64) -> u64
     }
 }
 
-/// 1 for a number above 0.
+/// 1 for a number above 0, and 0 for 0.
 fn some(x: u64) -> u64
     ensures { λ r. ⌜ r ≡ min x 1 ⌝ }
 {
     if x > 0 { 1 } else { 0 }
 }
 
-/// A number of two words without its `c` lowest digits. A shift by 0, by less than a word, by less than two and by more are
-/// branches of their own, since a word is shifted by 0 to 63 places only.
+/// A number of two words without its `c` lowest digits. A cut of none, of part of the low word, of part of the high word and
+/// of both words are branches of their own, since a word is shifted by 0 to 63 only.
 pub(crate) fn without(hi: u64, lo: u64, c: u64) -> Cut
     requires { ⌜ (hi * 2 ^ 64 + lo) / 2 ^ c < 2 ^ 64 ⌝ }
     ensures { λ r. ⌜ (r .whole ≡ (hi * 2 ^ 64 + lo) / 2 ^ c) × (r .left ≡ min ((hi * 2 ^ 64 + lo) % 2 ^ c) 1) ⌝ }
@@ -61,8 +61,9 @@ pub(crate) fn without(hi: u64, lo: u64, c: u64) -> Cut
         let w = lo >> c;
         let h = hi << (64 - c);
         let t = some(lo - (w << c));
+        let whole = h + w;
         Cut {
-            whole: h + w,
+            whole: whole,
             left: t,
         }
     } else if c < 128 {

@@ -1,11 +1,9 @@
 -- `is_finite` meets its contract. Assumes nothing.
-use Rattle.doubles.proofs.Tests.{is-nan, not-nan, fit, rank-bits, rank-most, finite-test, absolute-rank, absolute-nan}
+use mathlib.Core.Path.{sym, ap}
 use lib.Ieee.Scale.{finite}
-use mathlib.Core.Path.{_≡_, refl, sym, ap, _∙_, subst}
+use Rattle.doubles.proofs.Tests.{is-nan, not-nan, fit, finite-test}
 use Rattle.doubles.proofs.bits.is_finite.Statement.{statement}
 use Rattle.doubles.proofs.bits.is_finite.Tie as tie
-use Rattle.doubles.proofs.bits.is_finite.Reads as reads
-use Rattle.doubles.proofs.bits.is_finite.Lts as lts
 
 returns : tie.Need-returns
 returns c = sym (ap finite (is-nan (c .before .args .x) (c .if1 .taken)))

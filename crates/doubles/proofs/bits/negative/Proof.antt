@@ -1,12 +1,10 @@
 -- `negative` meets its contract: a rank up to the infinity with a sign is no NaN's pattern. Assumes nothing.
-use Rattle.doubles.proofs.Patterns.{no-nan-bits}
+use borrow.Author.Needs.{needs}
 use Prim.Native.Nat.{_+_, _^_}
 use native.Mathlib.Omega.{arith}
-use borrow.Author.Needs.{needs}
+use Rattle.doubles.proofs.Patterns.{no-nan-bits}
 use Rattle.doubles.proofs.bits.negative.Statement.{statement}
 use Rattle.doubles.proofs.bits.negative.Tie as tie
-use Rattle.doubles.proofs.bits.negative.Reads as reads
-use Rattle.doubles.proofs.bits.negative.Lts as lts
 
 add-result : tie.Need-add-result
 add-result c = search needs

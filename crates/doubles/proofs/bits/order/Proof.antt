@@ -1,13 +1,10 @@
 -- `order` meets its contract. Assumes nothing.
+use borrow.Author.Needs.{needs}
+use lib.Ieee.{binary64, toBits}
 use Rattle.doubles.proofs.Tests.{fit}
 use Rattle.doubles.proofs.Keys.{order-low, order-high, order-room}
-use lib.Ieee.{binary64, toBits}
-use native.Mathlib.Omega.{arith}
-use borrow.Author.Needs.{needs}
 use Rattle.doubles.proofs.bits.order.Statement.{statement}
 use Rattle.doubles.proofs.bits.order.Tie as tie
-use Rattle.doubles.proofs.bits.order.Reads as reads
-use Rattle.doubles.proofs.bits.order.Lts as lts
 
 float-to-bits-b : tie.Need-float-to-bits-b
 float-to-bits-b c = search needs

@@ -1,11 +1,9 @@
 -- `positive` meets its contract: a rank up to the infinity is no NaN's pattern. Assumes nothing.
-use Rattle.doubles.proofs.Patterns.{no-nan-bits}
-use native.Mathlib.Omega.{arith}
 use borrow.Author.Needs.{needs}
+use native.Mathlib.Omega.{arith}
+use Rattle.doubles.proofs.Patterns.{no-nan-bits}
 use Rattle.doubles.proofs.bits.positive.Statement.{statement}
 use Rattle.doubles.proofs.bits.positive.Tie as tie
-use Rattle.doubles.proofs.bits.positive.Reads as reads
-use Rattle.doubles.proofs.bits.positive.Lts as lts
 
 float-from-bits-result : tie.Need-float-from-bits-result
 float-from-bits-result c = no-nan-bits (c .args .r) (omega arith)

@@ -1,13 +1,10 @@
 -- `next_down` meets its contract: it is `next_up` in the mirror. Assumes nothing.
-use Rattle.doubles.proofs.Next.{next-mirror}
-use lib.Ieee.{neg}
-use mathlib.Core.Path.{_≡_, refl, sym, ap, _∙_, subst}
 use borrow.Author.Needs.{needs}
+use mathlib.Core.Path.{sym, ap, _∙_}
+use lib.Ieee.{neg}
+use Rattle.doubles.proofs.Next.{next-mirror}
 use Rattle.doubles.proofs.neighbours.next_down.Statement.{statement}
 use Rattle.doubles.proofs.neighbours.next_down.Tie as tie
-use Rattle.doubles.proofs.neighbours.next_down.Reads as reads
-use Rattle.doubles.proofs.neighbours.next_down.Lts as lts
-use Rattle.doubles.proofs.neighbours.next_up.Reads as next-up-reads
 
 next-up-requires : tie.Need-next-up-requires
 next-up-requires c κs = search needs

@@ -1,18 +1,14 @@
 -- `minus` meets its contract: of the negative doubles only the one of rank 0 is a zero. Assumes nothing.
-use Rattle.doubles.proofs.Zero.{zero-plus, withZero-rank}
+use borrow.Author.Needs.{needs}
+use mathlib.Core.Bool.{true, false}
+use mathlib.Core.Path.{sym, ap, _∙_}
+use Prim.Native.Nat.{ℕ}
+use native.Mathlib.Omega.{arith}
 use Rattle.doubles.specs.Directed.{withZero}
 use Rattle.doubles.specs.Rank.{double}
-use Prim.Native.Nat.{ℕ, _<_}
-use mathlib.Core.Bool.{Bool, true, false}
-use mathlib.Core.Path.{_≡_, refl, sym, ap, _∙_, subst}
-use native.Mathlib.Omega.{arith}
-use borrow.Author.Needs.{needs}
+use Rattle.doubles.proofs.Zero.{zero-plus, withZero-rank}
 use Rattle.doubles.proofs.outward.minus.Statement.{statement}
 use Rattle.doubles.proofs.outward.minus.Tie as tie
-use Rattle.doubles.proofs.outward.minus.Reads as reads
-use Rattle.doubles.proofs.outward.minus.Lts as lts
-use Rattle.doubles.proofs.bits.negative.Reads as negative-reads
-use Rattle.doubles.proofs.bits.positive.Reads as positive-reads
 
 positive-requires : tie.Need-positive-requires
 positive-requires c κs = search needs

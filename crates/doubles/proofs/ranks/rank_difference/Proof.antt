@@ -1,29 +1,29 @@
+-- `rank_difference` meets its contract: a far second rank only moves the lower bound, and a near one is taken from the first at its exponent. Assumes nothing.
 use borrow.Author.Needs.{needs}
 use native.Mathlib.Omega.{arith}
-use Prim.Native.Nat.{ℕ, _+_, _-_, _*_, _^_, _<_, _≤_}
-use native.Mathlib.Nat.{le-of-lt, zero-lt-suc}
-use Prim.Native.Nat.{zero-le}
-use Rattle.doubles.proofs.Sums.{far-sum, far-difference, far-of, m-lt, two-lt, w-lt, k-le, carry-is, carry⁺, plain-is, plain⁺, hi-46, hi⁺, borrow-is, borrow⁺, less-is, less⁺, ranked}
+use Prim.Native.Nat.{_<_}
+use native.Mathlib.Nat.{le-of-lt}
+use Rattle.doubles.proofs.RankSums.{Operands, Aligned, second-lt, times-fits, far-difference, borrow-pos, borrow-difference, plain-difference, difference-rankable, difference-bounds}
 use Rattle.doubles.proofs.ranks.rank_difference.Statement.{statement}
 use Rattle.doubles.proofs.ranks.rank_difference.Tie as tie
 
-lo-fits : (c : tie.After-times) → c .times .result .lo < 2 ^ 64
-lo-fits c = c .times .ensures .2
+operands : (c : tie.After-exponent2) → let a = c .before .before .args in Operands (a .r) (a .t) (c .before .exponent .result) (c .exponent2 .result)
+operands c =
+    let a = c .before .before in
+    record { positive = a .pre .0; ordered = le-of-lt (a .pre .1); finite = a .pre .2; first-exponent = c .before .exponent .ensures; second-exponent = c .exponent2 .ensures }
 
-wide : (x : ℕ) → x < 2 ^ 53 → x ≤ 2 ^ 64 - 1
-wide x h = omega arith
+aligned : (c : tie.After-times) → let e = c .before .before in let a = e .before .before .args
+    in Aligned (a .r) (a .t) (e .before .exponent .result) (e .exponent2 .result) (c .times .result .hi) (c .times .result .lo)
+aligned c = record { operands = operands (c .before .before); close = c .before .if1 .left; product = c .times .ensures .0; high = c .times .ensures .1; low = c .times .ensures .2 }
 
-sum-fits : (x w : ℕ) → w ≤ 2 ^ 64 - 1 → x ≤ 2 ^ 64 - 1 - w → x + w < 2 ^ 64
-sum-fits x w h l = omega arith
+below : (c : tie.After-times) → let a = c .before .before .before .before .args in a .t < a .r
+below c = c .before .before .before .before .pre .1
 
-dif-fits : (x w : ℕ) → w ≤ 2 ^ 64 - 1 → x < w → (x + (2 ^ 64 - 1 - w) < 2 ^ 64) × (x + (2 ^ 64 - 1 - w) + 1 < 2 ^ 64)
-dif-fits x w h l = omega arith
+exponent-requires : tie.Need-exponent-requires
+exponent-requires c κs = search needs
 
-field-requires : tie.Need-field-requires
-field-requires c κs = search needs
-
-field-requires-2 : tie.Need-field-requires-2
-field-requires-2 c κs = search needs
+exponent-requires-2 : tie.Need-exponent-requires-2
+exponent-requires-2 c κs = search needs
 
 sub-d : tie.Need-sub-d
 sub-d c = search needs
@@ -35,9 +35,7 @@ capped-requires : tie.Need-capped-requires
 capped-requires c κs = search needs
 
 returns : tie.Need-returns
-returns c =
-    let f2 = c .before .before in let f1 = f2 .before in let s = f1 .before in let r = s .args .r in let t = s .args .t in let j = f1 .field .result in let k = f2 .field2 .result in
-    far-difference r t (c .capped .result .down) (c .capped .result .up) (s .pre .0) (s .pre .1) (far-of r t j k (f1 .field .ensures) (f2 .field2 .ensures) (c .before .if1 .taken)) (c .capped .ensures .0) (c .capped .ensures .1)
+returns c = let o = c .before .before in far-difference (operands o) (c .before .if1 .taken) (o .before .before .pre .1) (c .capped .ensures)
 
 mul-w : tie.Need-mul-w
 mul-w c = search needs
@@ -55,56 +53,38 @@ shl-times : tie.Need-shl-times
 shl-times c = search needs
 
 times-requires : tie.Need-times-requires
-times-requires c κs =
-    let f2 = c .before in let f1 = f2 .before in let s = f1 .before in let r = s .args .r in let t = s .args .t in let j = f1 .field .result in let k = f2 .field2 .result in
-    (m-lt r t j k (s .pre .0) (le-of-lt (s .pre .1)) (s .pre .2) (f1 .field .ensures) (f2 .field2 .ensures) (c .if1 .left), two-lt r t j k (s .pre .0) (le-of-lt (s .pre .1)) (s .pre .2) (f1 .field .ensures) (f2 .field2 .ensures) (c .if1 .left))
+times-requires c κs = times-fits (operands (c .before)) (c .if1 .left)
 
 sub-wide-ranks : tie.Need-sub-wide-ranks
-sub-wide-ranks c =
-    let f2 = c .before .before .before in let f1 = f2 .before in let s = f1 .before in let r = s .args .r in let t = s .args .t in let j = f1 .field .result in let k = f2 .field2 .result in
-    let ft = c .before in let el = c .before .before in let lt = lo-fits ft in hi⁺ r t j k (s .pre .0) (le-of-lt (s .pre .1)) (s .pre .2) (f1 .field .ensures) (f2 .field2 .ensures) (el .if1 .left) (ft .times .result .hi) (ft .times .result .lo) (ft .times .ensures .0) (ft .times .ensures .1) lt (s .pre .1) (c .if2 .taken)
+sub-wide-ranks c = borrow-pos (aligned (c .before)) (below (c .before)) (c .if2 .taken)
 
 sub-wide-ranks-2 : tie.Need-sub-wide-ranks-2
-sub-wide-ranks-2 c =
-    let f2 = c .before .before .before in let f1 = f2 .before in let s = f1 .before in let r = s .args .r in let t = s .args .t in let j = f1 .field .result in let k = f2 .field2 .result in
-    let ft = c .before in let el = c .before .before in let lt = lo-fits ft in wide _ (w-lt r t j k (s .pre .0) (le-of-lt (s .pre .1)) (s .pre .2) (f1 .field .ensures) (f2 .field2 .ensures) (el .if1 .left))
+sub-wide-ranks-2 c = omega (arith, second-lt (operands (c .before .before .before)))
 
 add-wide-ranks : tie.Need-add-wide-ranks
-add-wide-ranks c =
-    let f2 = c .before .before .before in let f1 = f2 .before in let s = f1 .before in let r = s .args .r in let t = s .args .t in let j = f1 .field .result in let k = f2 .field2 .result in
-    let ft = c .before in let el = c .before .before in let lt = lo-fits ft in record { fits = dif-fits (ft .times .result .lo) (t - k * 2 ^ 52) (wide _ (w-lt r t j k (s .pre .0) (le-of-lt (s .pre .1)) (s .pre .2) (f1 .field .ensures) (f2 .field2 .ensures) (el .if1 .left))) (c .if2 .taken) .0 }
+add-wide-ranks c = omega (arith, second-lt (operands (c .before .before .before)), c .if2 .taken)
 
 add-wide-ranks-2 : tie.Need-add-wide-ranks-2
-add-wide-ranks-2 c =
-    let f2 = c .before .before .before in let f1 = f2 .before in let s = f1 .before in let r = s .args .r in let t = s .args .t in let j = f1 .field .result in let k = f2 .field2 .result in
-    let ft = c .before in let el = c .before .before in let lt = lo-fits ft in record { fits = dif-fits (ft .times .result .lo) (t - k * 2 ^ 52) (wide _ (w-lt r t j k (s .pre .0) (le-of-lt (s .pre .1)) (s .pre .2) (f1 .field .ensures) (f2 .field2 .ensures) (el .if1 .left))) (c .if2 .taken) .1 }
+add-wide-ranks-2 c = omega (arith, second-lt (operands (c .before .before .before)), c .if2 .taken)
 
 wide-ranks-requires : tie.Need-wide-ranks-requires
-wide-ranks-requires c κs =
-    let f2 = c .before .before .before in let f1 = f2 .before in let s = f1 .before in let r = s .args .r in let t = s .args .t in let j = f1 .field .result in let k = f2 .field2 .result in
-    let ft = c .before in let el = c .before .before in let lt = lo-fits ft in (borrow⁺ r t j k (s .pre .0) (le-of-lt (s .pre .1)) (s .pre .2) (f1 .field .ensures) (f2 .field2 .ensures) (el .if1 .left) (ft .times .result .hi) (ft .times .result .lo) (ft .times .ensures .0) (ft .times .ensures .1) lt (s .pre .1) (c .if2 .taken), hi-46 r t j k (s .pre .0) (le-of-lt (s .pre .1)) (s .pre .2) (f1 .field .ensures) (f2 .field2 .ensures) (el .if1 .left) (ft .times .result .hi) (ft .times .result .lo) (ft .times .ensures .0) (ft .times .ensures .1) lt .3, k-le r t j k (s .pre .0) (le-of-lt (s .pre .1)) (s .pre .2) (f1 .field .ensures) (f2 .field2 .ensures) (el .if1 .left), zero-le)
+wide-ranks-requires c κs = let a = aligned (c .before) in let l = below (c .before) in difference-rankable a l _ _ (borrow-difference a l (c .if2 .taken))
 
 wide-ranks-requires-2 : tie.Need-wide-ranks-requires-2
-wide-ranks-requires-2 c κs =
-    let f2 = c .before .before .before in let f1 = f2 .before in let s = f1 .before in let r = s .args .r in let t = s .args .t in let j = f1 .field .result in let k = f2 .field2 .result in
-    let ft = c .before in let el = c .before .before in let lt = lo-fits ft in (less⁺ r t j k (s .pre .0) (le-of-lt (s .pre .1)) (s .pre .2) (f1 .field .ensures) (f2 .field2 .ensures) (el .if1 .left) (ft .times .result .hi) (ft .times .result .lo) (ft .times .ensures .0) (ft .times .ensures .1) lt (s .pre .1) (c .if2 .left), hi-46 r t j k (s .pre .0) (le-of-lt (s .pre .1)) (s .pre .2) (f1 .field .ensures) (f2 .field2 .ensures) (el .if1 .left) (ft .times .result .hi) (ft .times .result .lo) (ft .times .ensures .0) (ft .times .ensures .1) lt .0, k-le r t j k (s .pre .0) (le-of-lt (s .pre .1)) (s .pre .2) (f1 .field .ensures) (f2 .field2 .ensures) (el .if1 .left), zero-le)
+wide-ranks-requires-2 c κs = let a = aligned (c .before) in let l = below (c .before) in difference-rankable a l _ _ (plain-difference a l (c .if2 .left))
 
 returns-2 : tie.Need-returns-2
-returns-2 c =
-    let f2 = c .before .before .before .before in let f1 = f2 .before in let s = f1 .before in let r = s .args .r in let t = s .args .t in let j = f1 .field .result in let k = f2 .field2 .result in
-    let ft = c .before .before in let el = c .before .before .before in let lt = lo-fits ft in ranked _ _ _ _ (borrow-is r t j k (s .pre .0) (le-of-lt (s .pre .1)) (s .pre .2) (f1 .field .ensures) (f2 .field2 .ensures) (el .if1 .left) (ft .times .result .hi) (ft .times .result .lo) (ft .times .ensures .0) (ft .times .ensures .1) lt (s .pre .1) (c .before .if2 .taken)) (c .wide-ranks .ensures)
+returns-2 c = let a = aligned (c .before .before) in let l = below (c .before .before) in difference-bounds a l _ _ (borrow-difference a l (c .before .if2 .taken)) (c .wide-ranks .ensures)
 
 returns-3 : tie.Need-returns-3
-returns-3 c =
-    let f2 = c .before .before .before .before in let f1 = f2 .before in let s = f1 .before in let r = s .args .r in let t = s .args .t in let j = f1 .field .result in let k = f2 .field2 .result in
-    let ft = c .before .before in let el = c .before .before .before in let lt = lo-fits ft in ranked _ _ _ _ (less-is r t j k (s .pre .0) (le-of-lt (s .pre .1)) (s .pre .2) (f1 .field .ensures) (f2 .field2 .ensures) (el .if1 .left) (ft .times .result .hi) (ft .times .result .lo) (ft .times .ensures .0) (ft .times .ensures .1) lt (s .pre .1) (c .before .if2 .left)) (c .wide-ranks2 .ensures)
+returns-3 c = let a = aligned (c .before .before) in let l = below (c .before .before) in difference-bounds a l _ _ (plain-difference a l (c .before .if2 .left)) (c .wide-ranks2 .ensures)
 
 pub rank-difference-spec : {M : Type 1} → statement M
 rank-difference-spec =
     tie.close
     (tie.spec
-    field-requires
-    field-requires-2
+    exponent-requires
+    exponent-requires-2
     sub-d
     sub-capped
     capped-requires

@@ -1,8 +1,8 @@
+-- `width` meets its contract: the zeros before the first set bit and the digits fill the word. Assumes nothing.
 use native.Mathlib.Omega.{arith}
-use Rattle.doubles.proofs.TwoWords.{size-leading, size-joined, joined, joined-low}
-use lib.Count.{leadingZeros}
+use mathlib.Core.Path.{ap}
 use lib.Ieee.{size}
-use mathlib.Core.Path.{_≡_, ap}
+use Rattle.doubles.proofs.TwoWords.{size-leading, size-joined, joined-low}
 use Rattle.doubles.proofs.words.width.Statement.{statement}
 use Rattle.doubles.proofs.words.width.Tie as tie
 
@@ -19,12 +19,10 @@ sub-result-2 : tie.Need-sub-result-2
 sub-result-2 c = omega (arith, size-leading 64 (c .before .args .lo) (c .before .fits .lo .fits))
 
 returns : tie.Need-returns
-returns c = omega (arith, size-leading 64 (c .before .args .hi) (c .before .fits .hi .fits), size-joined (c .before .args .hi) (c .before .args .lo) (c .if1 .taken) (c .before .fits .lo .fits))
+returns c = let a = c .before in omega (arith, size-leading 64 (a .args .hi) (a .fits .hi .fits), size-joined (a .args .hi) (a .args .lo) (c .if1 .taken) (a .fits .lo .fits))
 
 returns-2 : tie.Need-returns-2
-returns-2 c =
-    let z : joined (c .before .args .hi) (c .before .args .lo) ≡ c .before .args .lo = joined-low (c .before .args .hi) (c .before .args .lo) (omega arith) in
-    omega (arith, size-leading 64 (c .before .args .lo) (c .before .fits .lo .fits), ap size z)
+returns-2 c = let a = c .before in omega (arith, size-leading 64 (a .args .lo) (a .fits .lo .fits), ap size (joined-low (a .args .hi) (a .args .lo) (omega arith)))
 
 pub width-spec : {M : Type 1} → statement M
 width-spec =
