@@ -21,16 +21,12 @@ use Rattle.doubles.proofs.Keys.{key, lt-key}
 abbrev chosen : Bool → Float → Float → Float
 chosen q a b = cond (isNan a) b (cond q b a)
 
-chosen-nan : (q : Bool) (a b : Float) → a ≡ nan → b ≡ chosen q a b
-unfolding isNan
-chosen-nan q a b e = sym (ap (λ (x : Float). chosen q x b) e)
-
 chosen-is : {q r : Bool} (a b : Float) → T (not (isNan a)) → q ≡ r → cond r b a ≡ chosen q a b
 chosen-is {q} {r} a b t e = sym (ap (λ (n : Bool). cond n b (cond q b a)) (is-false (isNan a) t) ∙ ap (λ (n : Bool). cond n b a) e)
 
 pub larger-nan : (a b : Float) → a ≡ nan → b ≡ larger a b
 unfolding larger
-larger-nan a b = chosen-nan (lt a b) a b
+larger-nan a b e = sym (ap (λ (x : Float). larger x b) e)
 
 pub larger-by : {r : Bool} (a b : Float) → T (not (isNan a)) → lt a b ≡ r → cond r b a ≡ larger a b
 unfolding larger
@@ -38,7 +34,7 @@ larger-by a b = chosen-is a b
 
 pub smaller-nan : (a b : Float) → a ≡ nan → b ≡ smaller a b
 unfolding smaller
-smaller-nan a b = chosen-nan (lt b a) a b
+smaller-nan a b e = sym (ap (λ (x : Float). smaller x b) e)
 
 pub smaller-by : {r : Bool} (a b : Float) → T (not (isNan a)) → lt b a ≡ r → cond r b a ≡ smaller a b
 unfolding smaller

@@ -21,6 +21,22 @@ use Rattle.doubles.proofs.Zero.{exact-withZero, finite-withZero, nan-wi
 use Rattle.doubles.proofs.Directed.{round-up-law}
 use Rattle.doubles.proofs.Mirror.{mirror, round-down-law}
 
+-- ---- the mirror
+neg-half : (z : ℤ) → negℤ (z +ℤ negsuc 0) ≡ negℤ z +ℤ pos 1
+neg-half = all _ λ z z'. simp differences (omega arith)
+
+pub next-mirror : (x : Float) → nextDown x ≡ neg (nextUp (neg x))
+unfolding nextUp nextDown neg
+next-mirror nan = refl
+next-mirror (inf true) = refl
+next-mirror (inf false) = sym (neg-double true largest (lit< tt))
+next-mirror (fin s m e) =
+    let x = fin s m e in
+    let z = exactAt 1 x +ℤ negsuc 0 in
+    mirror 1 z
+    ∙ sym (neg-withZero true (roundUp 1 (negℤ z)))
+    ∙ ap (λ (w : ℤ). neg (withZero true (roundUp 1 w))) (neg-half (exactAt 1 x) ∙ ap (λ (y : ℤ). y +ℤ pos 1) (sym (exactAt-neg 1 x)))
+
 -- ---- half a unit more is strictly above
 half-above : (a b : ℤ) → (a *ℤ pos 2 +ℤ pos 1 ≼ b *ℤ pos 2) ↔ (a ≺ b)
 half-above a b = (to a b, from a b)
@@ -78,22 +94,6 @@ unfolding nextDown
 next-down-law nan f = absurd f
 next-down-law (inf s) f = absurd f
 next-down-law (fin s m e) f = let x = fin s m e in next-of-down x (roundDown 1 (exactAt 1 x +ℤ negsuc 0)) (round-down-law 1 (exactAt 1 x +ℤ negsuc 0))
-
--- ---- the mirror
-neg-half : (z : ℤ) → negℤ (z +ℤ negsuc 0) ≡ negℤ z +ℤ pos 1
-neg-half = all _ λ z z'. simp differences (omega arith)
-
-pub next-mirror : (x : Float) → nextDown x ≡ neg (nextUp (neg x))
-unfolding nextUp nextDown neg
-next-mirror nan = refl
-next-mirror (inf true) = refl
-next-mirror (inf false) = sym (neg-double true largest (lit< tt))
-next-mirror (fin s m e) =
-    let x = fin s m e in
-    let z = exactAt 1 x +ℤ negsuc 0 in
-    mirror 1 z
-    ∙ sym (neg-withZero true (roundUp 1 (negℤ z)))
-    ∙ ap (λ (w : ℤ). neg (withZero true (roundUp 1 w))) (neg-half (exactAt 1 x) ∙ ap (λ (y : ℤ). y +ℤ pos 1) (sym (exactAt-neg 1 x)))
 
 -- ---- each undoes the other, as values
 pub down-after-up : (x : Float) → T (finite x) → T (fits binary64 x) → T (finite (nextUp x)) → exact (nextDown (nextUp x)) ≡ exact x

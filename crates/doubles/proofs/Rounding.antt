@@ -16,7 +16,7 @@ use Rattle.exact.proofs.Order.{≼-refl, ≼-trans, ≼-antisym, ≺-not-≼, n
 use Rattle.exact.proofs.Signed.{SignedLe, signed-≼}
 use Rattle.exact.proofs.Compare.{le-exact, le-top, le-bottom}
 use Rattle.doubles.specs.Rank.{atRank, largest, infinity, double}
-use Rattle.doubles.specs.Directed.{withZero, roundUp, roundDown}
+use Rattle.doubles.specs.Directed.{withZero, roundUp, roundDown, IsUp, IsDown}
 use Rattle.doubles.proofs.Grid.{atRank-mono}
 use Rattle.doubles.proofs.Patterns.{rankOf, ranked, exact-double, double-fits, double-sign}
 use Rattle.doubles.proofs.Zero.{withZero-own}
@@ -70,6 +70,29 @@ down-same l x f h =
     let d = roundDown l (exactAt l x) in
     let w = D .greatest x f h (≼-refl (exactAt l x)) in
     sym (down-zero l (exactAt l x)) ∙ exact-unique d x (w .0) (D .fit) f h (≼-antisym (at-cancel l d x (D .not-above (w .0))) (w .1))
+
+-- ---- only one double is least above, or greatest below: two wrong answers can't both be right
+one-only : (s : Bool) (d e : Float) → T (not (isNan d)) → T (not (isNan e)) → (d ≡ inf (not s) → ⊥) → (e ≡ inf (not s) → ⊥)
+    → (T (finite d) → T (finite e)) → (T (finite e) → T (finite d)) → (T (finite d) → T (finite e) → withZero false d ≡ withZero false e) → withZero false d ≡ withZero false e
+one-only s d e t u n m f g same = elim (finite-or s d t n) [
+  | inl a ↦ same a (f a)
+  | inr a ↦ elim (finite-or s e u m) [
+    | inl b ↦ absurd (subst (λ (x : Float). T (finite x)) a (g b))
+    | inr b ↦ ap (withZero false) (a ∙ sym b)
+  ]
+]
+
+pub up-unique : (l : ℕ) (z : ℤ) (d e : Float) → IsUp l z d → IsUp l z e → withZero false d ≡ withZero false e
+up-unique l z d e D E =
+    let to : T (finite d) → T (finite e) × (exact e ≼ exact d) = λ f. E .least d f (D .fit) (D .not-below f) in
+    let from : T (finite e) → T (finite d) × (exact d ≼ exact e) = λ f. D .least e f (E .fit) (E .not-below f) in
+    one-only false d e (D .no-nan) (E .no-nan) (D .no-other) (E .no-other) (λ f. to f .0) (λ f. from f .0) (λ f g. exact-unique d e f (D .fit) g (E .fit) (≼-antisym (from g .1) (to f .1)))
+
+pub down-unique : (l : ℕ) (z : ℤ) (d e : Float) → IsDown l z d → IsDown l z e → withZero false d ≡ withZero false e
+down-unique l z d e D E =
+    let to : T (finite d) → T (finite e) × (exact d ≼ exact e) = λ f. E .greatest d f (D .fit) (D .not-above f) in
+    let from : T (finite e) → T (finite d) × (exact e ≼ exact d) = λ f. D .greatest e f (E .fit) (E .not-above f) in
+    one-only true d e (D .no-nan) (E .no-nan) (D .no-other) (E .no-other) (λ f. to f .0) (λ f. from f .0) (λ f g. exact-unique d e f (D .fit) g (E .fit) (≼-antisym (to f .1) (from g .1)))
 
 -- ---- past MAX
 abbrev pub MAX : Float
