@@ -25,7 +25,7 @@ chosen-is : {q r : Bool} (a b : Float) → T (not (isNan a)) → q ≡ r → con
 chosen-is {q} {r} a b t e = sym (ap (λ (n : Bool). cond n b (cond q b a)) (is-false (isNan a) t) ∙ ap (λ (n : Bool). cond n b a) e)
 
 pub larger-nan : (a b : Float) → a ≡ nan → b ≡ larger a b
-unfolding larger
+unfolding larger isNan
 larger-nan a b e = sym (ap (λ (x : Float). larger x b) e)
 
 pub larger-by : {r : Bool} (a b : Float) → T (not (isNan a)) → lt a b ≡ r → cond r b a ≡ larger a b
@@ -33,7 +33,7 @@ unfolding larger
 larger-by a b = chosen-is a b
 
 pub smaller-nan : (a b : Float) → a ≡ nan → b ≡ smaller a b
-unfolding smaller
+unfolding smaller isNan
 smaller-nan a b e = sym (ap (λ (x : Float). smaller x b) e)
 
 pub smaller-by : {r : Bool} (a b : Float) → T (not (isNan a)) → lt b a ≡ r → cond r b a ≡ smaller a b

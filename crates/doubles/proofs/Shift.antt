@@ -6,7 +6,7 @@ use native.Mathlib.Nat.{le-refl, le-of-lt, not-le-of-lt, mul-comm, div-add-mod',
 use native.Mathlib.Omega.{arith}
 use lib.Pow.{pow-add, pow-pos, shl-shr, shr-shr, mod-pow-add}
 use lib.Ieee.{size}
-use Rattle.doubles.specs.Rank.{atRank, rankDown, rankUp}
+use Rattle.doubles.specs.Rank.{atRank, rankDown, rankUp, rank}
 use Rattle.exact.proofs.Naturals.{le-or-lt}
 use Rattle.doubles.proofs.Grid.{atRank-rank, rankDown-iff, rankUp-iff, atRank-lt, rank-short}
 use Rattle.doubles.proofs.TwoWords.{size-shr, size-shl, some-mul}
@@ -27,7 +27,7 @@ module _ (q l n : ℕ) where
   kept-short = subst (λ (x : ℕ). x < 2 ^ q + 2 ^ q) kept-is (rank-short q (n / 2 ^ l))
 
   rankDown-is : rankDown q l n ≡ dropped * 2 ^ q + n / 2 ^ (l + dropped)
-  unfolding rankDown
+  unfolding rankDown rank
   rankDown-is = ap (λ (x : ℕ). x * 2 ^ q + n / 2 ^ l / 2 ^ x) dropped-is ∙ ap (λ (x : ℕ). dropped * 2 ^ q + x) (shr-shr n l dropped)
 
   atRank-rankDown : atRank q (rankDown q l n) * 2 ^ l ≡ n / 2 ^ (l + dropped) * 2 ^ (l + dropped)

@@ -10,9 +10,7 @@ absolute (fin s m e) = fin false m e
 
 -- 01: "max and min with one NaN return the other". Of two equal ones, as +0 and −0 are, the first, as compiled Rust has it
 unfoldable pub larger : Float → Float → Float
-unfolding lt isNan
 larger a b = cond (isNan a) b (cond (lt a b) b a)
 
 unfoldable pub smaller : Float → Float → Float
-unfolding lt isNan
 smaller a b = cond (isNan a) b (cond (lt b a) b a)

@@ -47,7 +47,6 @@ pub record IsDown (l : ℕ) (z : ℤ) (d : Float) : Type 0 where
 -- a running sum a and what is added to it: "An infinite running sum stays infinite", whatever is added. A NaN stays a NaN;
 -- to a finite sum a NaN or an infinity adds itself
 unfoldable pub sumWith : (ℤ → Float) → Float → Float → Float
-unfolding exact
 sumWith rounded nan b = nan
 sumWith rounded (inf s) b = inf s
 sumWith rounded (fin s m e) nan = nan
@@ -62,7 +61,6 @@ sumDown = sumWith (roundDown 0)
 
 -- a product: where a factor is not finite, IEEE 754's, which is a NaN or an infinity
 unfoldable pub productWith : (ℤ → Float) → Float → Float → Float
-unfolding exact mul
 productWith rounded nan b = mul binary64 nan b
 productWith rounded (inf s) b = mul binary64 (inf s) b
 productWith rounded (fin s m e) nan = mul binary64 (fin s m e) nan

@@ -13,7 +13,6 @@ use Rattle.doubles.specs.Directed.{withZero, roundDown, roundUp}
 -- the least double above x is the least that is not below x and half a unit. It is +infinity past MAX, and stays there.
 -- A zero answer is −0, as in Rust: it comes from below
 unfoldable pub nextUp : Float → Float
-unfolding roundUp exact
 nextUp nan = nan
 nextUp (inf true) = double true largest
 nextUp (inf false) = inf false
@@ -21,7 +20,6 @@ nextUp (fin s m e) = withZero true (roundUp 1 (exactAt 1 (fin s m e) +ℤ pos 1)
 
 -- the greatest double below x is the greatest that is not above x less half a unit
 unfoldable pub nextDown : Float → Float
-unfolding roundDown exact
 nextDown nan = nan
 nextDown (inf true) = inf true
 nextDown (inf false) = double false largest

@@ -14,11 +14,9 @@ rank q n = let k = size n - suc q in k * 2 ^ q + n / 2 ^ k
 
 -- of the last double of at most n / 2 ^ l units, and of the first of at least that: the laws are `rankDown-iff` and `rankUp-iff` of proofs/Grid.antt
 unfoldable pub rankDown : ℕ → ℕ → ℕ → ℕ
-unfolding rank
 rankDown q l n = rank q (n / 2 ^ l)
 
 unfoldable pub rankUp : ℕ → ℕ → ℕ → ℕ
-unfolding rank
 rankUp q l zero = 0
 rankUp q l (suc n) = suc (rank q (n / 2 ^ l))
 

@@ -17,7 +17,6 @@ nearestUnits p l n = let k = size (n / 2 ^ l) - p in closest n (2 ^ l * 2 ^ k) *
 
 -- z / 2 ^ l units to the 53 digits of a double
 unfoldable pub toNearest : ℕ → ℤ → ℤ
-unfolding nearestUnits
 toNearest l (pos n) = pos (nearestUnits 53 l n)
 toNearest l (negsuc n) = negℤ (pos (nearestUnits 53 l (suc n)))
 

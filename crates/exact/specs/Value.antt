@@ -23,7 +23,6 @@ signed true n = negℤ (pos n)
 
 -- the exact value, in units of 2 ^ -1074; it is read only of finite doubles
 unfoldable pub exact : Float → ℤ
-unfolding magnitude
 exact x = signed (sign x) (magnitude x)
 
 -- the exact value in units of 2 ^ -(1074 + l): a sum of two doubles is a whole number of these at l = 0, a product at l = 1074
