@@ -17,6 +17,13 @@ use Rattle.doubles.proofs.Grid.{atRank-lt}
 use Rattle.doubles.specs.Directed.{withZero}
 use Rattle.doubles.proofs.Patterns.{infinite-rank, magnitude-double}
 
+-- a zero of either sign, taken as +0
+pub zero-plus : (s : Bool) → withZero false (double s 0) ≡ double false 0
+unfolding ofBits
+zero-plus true = refl
+zero-plus false = refl
+
+-- ---- what does not change
 magnitude-zero : (s : Bool) (e : ℤ) → magnitude (fin s zero e) ≡ 0
 unfolding magnitude
 magnitude-zero s e = ap (λ (x : ℕ). x * 2 ^ 1074 / down e) (zero-mul (up e)) ∙ ap (λ (x : ℕ). x / down e) (zero-mul (2 ^ 1074)) ∙ zero-div (down e)
@@ -85,8 +92,3 @@ withZero-rank s t r h k = elim (le-or-lt infinity r) [
   where
     positive : r < infinity → 0 < magnitude (double t r)
     positive l = omega (arith, magnitude-double t r l, atRank-lt 52 0 r h)
-
-pub zero-plus : (s : Bool) → withZero false (double s 0) ≡ double false 0
-unfolding ofBits
-zero-plus true = refl
-zero-plus false = refl
