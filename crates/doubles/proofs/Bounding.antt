@@ -34,9 +34,11 @@ down-signed l false n = refl
 down-signed l true zero = ap (λ (x : ℕ). withZero false (double true (min x infinity))) (rankUp-zero l) ∙ zero-plus true ∙ sym (ap (λ (x : ℕ). double false (min x largest)) (rankDown-zero l))
 down-signed l true (suc n) = refl
 
+-- what `spread` ensures of its two ends
 abbrev pub Spread : Bool → ℕ → ℕ → Float → Float → Type 0
 Spread s d u x y = (x ≡ cond s (withZero false (double true u)) (double false d)) × (y ≡ cond s (withZero false (double true d)) (double false u))
 
+-- x and y are z / 2 ^ l units rounded down and up
 abbrev pub Bounds : ℕ → ℤ → Float → Float → Type 0
 Bounds l z x y = (x ≡ roundDown l z) × (y ≡ roundUp l z)
 

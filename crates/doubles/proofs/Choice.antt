@@ -135,5 +135,6 @@ larger-exact a b f g h k = sym (ap exact (larger-by a b (finite-no-nan a f) (lt-
 pub absolute-exact : (x : Float) → exact (absolute x) ≡ signed false (magnitude x)
 unfolding absolute magnitude exact
 absolute-exact nan = refl
-absolute-exact (inf s) = refl
+absolute-exact (inf true) = refl
+absolute-exact (inf false) = refl
 absolute-exact (fin s m e) = refl
