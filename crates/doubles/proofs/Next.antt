@@ -4,15 +4,16 @@ use mathlib.Core.Logic.{inl, inr, _↔_}
 use mathlib.Core.Bool.{Bool, true, false, not}
 use Prim.Native.Nat.{ℕ, zero, suc}
 use native.Mathlib.Omega.{arith}
-use lib.IntN.{ℤ, pos, negsuc, negℤ, _+ℤ_, _*ℤ_}
+use lib.IntN.{ℤ, pos, negsuc, negℤ, _+ℤ_, _*ℤ_, negℤ-negℤ}
 use lib.Dec.{T, lit<}
 use lib.Ieee.{Float, nan, inf, fin, binary64, fits, neg}
+use lib.Ieee.Fits.{neg-fits}
 use lib.Ieee.Scale.{finite}
 use Rattle.exact.specs.Value.{exact, exactAt}
 use Rattle.exact.specs.Integers.{_≼_, _≺_}
 use Rattle.exact.proofs.Difference.{all, differences}
 use Rattle.exact.proofs.Order.{≼-antisym, ≼-or-≺, ≺-not-≼}
-use Rattle.exact.proofs.Values.{exactAt-neg}
+use Rattle.exact.proofs.Values.{exact-neg, exactAt-neg, finite-neg, neg-neg}
 use Rattle.doubles.specs.Rank.{largest, double}
 use Rattle.doubles.specs.Directed.{withZero, roundUp, roundDown, IsUp, IsDown}
 use Rattle.doubles.specs.Neighbours.{nextUp, nextDown, IsNextUp, IsNextDown}
@@ -109,11 +110,13 @@ down-after-up x f h g =
 
 pub up-after-down : (x : Float) → T (finite x) → T (fits binary64 x) → T (finite (nextDown x)) → exact (nextUp (nextDown x)) ≡ exact x
 up-after-down x f h g =
-    let D = next-down-law x f in
-    let d = nextDown x in
-    let U = next-up-law d g in
-    let w = U .least x f h (D .below g) in
-    elim (≼-or-≺ (exact x) (exact (nextUp d))) [
-      | inl o ↦ ≼-antisym (w .1) o
-      | inr o ↦ absurd (≺-not-≼ (U .above (w .0)) (D .greatest (nextUp d) (w .0) (U .fit) o .1))
-    ]
+    let y = neg x in
+    let u = nextUp y in
+    let d : nextDown x ≡ neg u = next-mirror x in
+    let back : nextUp (neg u) ≡ neg (nextDown u) = sym (neg-neg (nextUp (neg u))) ∙ ap neg (sym (next-mirror u)) in
+    let t : T (finite u) = subst T (ap finite d ∙ finite-neg u) g in
+    ap (λ (z : Float). exact (nextUp z)) d
+    ∙ ap exact back
+    ∙ exact-neg (nextDown u)
+    ∙ ap negℤ (down-after-up y (subst T (sym (finite-neg x)) f) (neg-fits binary64 x h) t ∙ exact-neg x)
+    ∙ negℤ-negℤ (exact x)

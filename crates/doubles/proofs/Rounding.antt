@@ -8,6 +8,7 @@ use lib.IntN.{ℤ, pos, negℤ, *ℤ-comm, negℤ-negℤ}
 use lib.Dec.{T, lit<}
 use lib.Pow.{pow-pos}
 use lib.Ieee.{Float, nan, inf, fin, binary64, ofBits, ofFields, odd, fits, isNan, neg, le}
+use lib.Ieee.Fits.{neg-fits}
 use lib.Ieee.Scale.{finite}
 use Rattle.exact.specs.Value.{sign, signed, exact, exactAt}
 use Rattle.exact.specs.Integers.{_≼_, _≺_}
@@ -15,11 +16,12 @@ use Rattle.exact.proofs.Difference.{differences}
 use Rattle.exact.proofs.Order.{≼-refl, ≼-trans, ≼-antisym, ≺-not-≼, neg-≼, neg-≺, *-mono, *-cancel}
 use Rattle.exact.proofs.Signed.{SignedLe, signed-≼}
 use Rattle.exact.proofs.Compare.{le-exact, le-top, le-bottom}
+use Rattle.exact.proofs.Values.{exactAt-neg, finite-neg, neg-neg}
 use Rattle.doubles.specs.Rank.{atRank, largest, infinity, double}
 use Rattle.doubles.specs.Directed.{withZero, roundUp, roundDown, IsUp, IsDown}
 use Rattle.doubles.proofs.Grid.{atRank-mono}
 use Rattle.doubles.proofs.Patterns.{rankOf, ranked, exact-double, double-fits, double-sign}
-use Rattle.doubles.proofs.Zero.{withZero-own}
+use Rattle.doubles.proofs.Zero.{withZero-own, neg-withZero, withZero-twice}
 use Rattle.doubles.proofs.Unique.{exact-unique}
 use Rattle.doubles.proofs.Directed.{round-up-law}
 use Rattle.doubles.proofs.Mirror.{mirror, mirror-up, up-zero, down-zero, round-down-law}
@@ -66,10 +68,11 @@ up-same l x f h =
 
 pub down-same : (l : ℕ) (x : Float) → T (finite x) → T (fits binary64 x) → roundDown l (exactAt l x) ≡ withZero false x
 down-same l x f h =
-    let D = round-down-law l (exactAt l x) in
-    let d = roundDown l (exactAt l x) in
-    let w = D .greatest x f h (≼-refl (exactAt l x)) in
-    sym (down-zero l (exactAt l x)) ∙ exact-unique d x (w .0) (D .fit) f h (≼-antisym (at-cancel l d x (D .not-above (w .0))) (w .1))
+    mirror l (exactAt l x)
+    ∙ ap (λ (z : ℤ). withZero false (neg (roundUp l z))) (sym (exactAt-neg l x))
+    ∙ ap (λ (y : Float). withZero false (neg y)) (up-same l (neg x) (subst T (sym (finite-neg x)) f) (neg-fits binary64 x h))
+    ∙ ap (withZero false) (neg-withZero false (neg x) ∙ ap (withZero true) (neg-neg x))
+    ∙ withZero-twice false true x
 
 -- ---- only one double is least above, or greatest below: two wrong answers can't both be right
 one-only : (s : Bool) (d e : Float) → T (not (isNan d)) → T (not (isNan e)) → (d ≡ inf (not s) → ⊥) → (e ≡ inf (not s) → ⊥)

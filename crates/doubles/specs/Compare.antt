@@ -8,9 +8,10 @@ absolute nan = nan
 absolute (inf s) = inf false
 absolute (fin s m e) = fin false m e
 
--- 01: "max and min with one NaN return the other". Of two equal ones, as +0 and −0 are, the first, as compiled Rust has it
+-- 01: "max and min with one NaN return the other". Of two equal ones, as +0 and −0 are, the first: Rust leaves that open
 unfoldable pub larger : Float → Float → Float
 larger a b = cond (isNan a) b (cond (lt a b) b a)
 
+-- the same with the test turned
 unfoldable pub smaller : Float → Float → Float
 smaller a b = cond (isNan a) b (cond (lt b a) b a)

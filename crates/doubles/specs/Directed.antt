@@ -53,6 +53,7 @@ sumWith rounded (fin s m e) nan = nan
 sumWith rounded (fin s m e) (inf t) = inf t
 sumWith rounded (fin s m e) (fin t n d) = rounded (exact (fin s m e) +ℤ exact (fin t n d))
 
+-- a sum is a whole number of units, and a product one of 2 ^ -1074 of them
 abbrev pub sumUp : Float → Float → Float
 sumUp = sumWith (roundUp 0)
 

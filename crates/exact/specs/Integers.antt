@@ -12,6 +12,7 @@ a ≼ b = a ≤ℤ b
 abbrev pub _≺_ : ℤ → ℤ → Type 0
 a ≺ b = a <ℤ b
 
+-- the larger of two
 unfoldable pub maxℤ : ℤ → ℤ → ℤ
 maxℤ a b = cond (ltZ a b) b a
 

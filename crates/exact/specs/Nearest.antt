@@ -20,6 +20,7 @@ unfoldable pub toNearest : ℕ → ℤ → ℤ
 toNearest l (pos n) = pos (nearestUnits 53 l n)
 toNearest l (negsuc n) = negℤ (pos (nearestUnits 53 l (suc n)))
 
+-- the sign of an infinity that a number comes to
 abbrev pub below-zero : ℤ → Bool
 below-zero (pos n) = false
 below-zero (negsuc n) = true

@@ -17,11 +17,12 @@ magnitude nan = 0
 magnitude (inf s) = 0
 magnitude (fin s m e) = m * up e * 2 ^ 1074 / down e
 
+-- the integer of a sign and a magnitude
 abbrev pub signed : Bool → ℕ → ℤ
 signed false n = pos n
 signed true n = negℤ (pos n)
 
--- the exact value, in units of 2 ^ -1074; it is read only of finite doubles
+-- the exact value of a finite double, in units of 2 ^ -1074; of any other it is 0 and means nothing
 unfoldable pub exact : Float → ℤ
 exact x = signed (sign x) (magnitude x)
 
