@@ -8,4 +8,5 @@ pub mod Representable
 pub mod Values
 pub mod Compare
 pub mod Nearest
+pub mod Digits
 pub mod Operations

@@ -1,9 +1,9 @@
--- Cases of the order of two naturals, and powers of two. Assumes nothing.
+-- Cases of the order of two naturals, powers of two, and how far apart two naturals are. Assumes nothing.
 use mathlib.Core.Path.{_≡_, sym, ap, _∙_, subst}
 use mathlib.Core.Logic.{_⊎_, inl, inr}
 use mathlib.Core.Bool.{Bool, true, false, not}
-use Prim.Native.Nat.{ℕ, _+_, _-_, _^_, _≤_, _<_, _∣_}
-use native.Mathlib.Nat.{dvd-mul-left, dvd-trans}
+use Prim.Native.Nat.{ℕ, _+_, _-_, _*_, _^_, _≤_, _<_, _∣_}
+use native.Mathlib.Nat.{dvd-mul-left, dvd-trans, dvd-add, dvd-sub, mul-comm, mul-sub, add-mul}
 use native.Mathlib.Omega.{arith}
 use lib.Dec.{T, leb, leb→le, nleb→lt}
 use lib.Pow.{pow-add}
@@ -21,3 +21,16 @@ pow-dvd i j n h d = dvd-trans (2 ^ i) (subst (λ (x : ℕ). 2 ^ i ∣ x) (sym (p
   where
     back : (i j : ℕ) → i ≤ j → j - i + i ≡ j
     back i j h = omega arith
+
+-- |a - b|
+abbrev pub distance : ℕ → ℕ → ℕ
+distance a b = (a - b) + (b - a)
+
+pub distance-dvd : (k a b : ℕ) → k ∣ a → k ∣ b → k ∣ distance a b
+distance-dvd k a b d e = dvd-add k (dvd-sub k d e) (dvd-sub k e d)
+
+pub sub-mul : (a b c : ℕ) → (a - b) * c ≡ a * c - b * c
+sub-mul a b c = omega (arith, mul-comm (a - b) c, mul-sub c a b, mul-comm c a, mul-comm c b)
+
+pub distance-mul : (a b c : ℕ) → distance (a * c) (b * c) ≡ distance a b * c
+distance-mul a b c = omega (arith, sub-mul a b c, sub-mul b a c, add-mul (a - b) (b - a) c)

@@ -18,7 +18,8 @@ use Rattle.exact.specs.Value.{signed}
 use Rattle.exact.specs.Integers.{_≼_}
 use Rattle.exact.specs.Nearest.{nearestUnits, toNearest}
 use Rattle.exact.proofs.Naturals.{le-or-lt, pow-dvd}
-use Rattle.exact.proofs.Representable.{Representable, representable-zero, representable-of}
+use Rattle.exact.specs.Representable.{Representable}
+use Rattle.exact.proofs.Representable.{representable-zero, representable-of}
 use Rattle.exact.proofs.Signed.{SignedLe, signed-neg, signed-abs, signed-≼, signed-scale, by-sign}
 
 -- ---- n / u to the nearest whole number: the quotient, or the next number up
@@ -40,11 +41,11 @@ times : (u c d : ℕ) → c ≡ d → c * u ≡ d * u
 times u c d e = ap (λ (x : ℕ). x * u) e
 
 -- it is no further from n than the multiple of u below
-closest-lo : (n u : ℕ) → closest n u * u + n / u * u ≤ n + n
+pub closest-lo : (n u : ℕ) → closest n u * u + n / u * u ≤ n + n
 closest-lo n u = elim (which n u) [ inl h ↦ omega (arith, div-add-mod' n u, times u _ _ (h .0)) | inr h ↦ omega (arith, div-add-mod' n u, times u _ _ (h .0)) ]
 
 -- nor than any multiple above
-closest-hi : (n u r : ℕ) → 0 < u → n ≤ r * u → n + n ≤ closest n u * u + r * u
+pub closest-hi : (n u r : ℕ) → 0 < u → n ≤ r * u → n + n ≤ closest n u * u + r * u
 closest-hi n u r U l =
     let s = div-add-mod' n u in
     let b = mod-lt n U in
@@ -54,6 +55,13 @@ closest-hi n u r U l =
           elim (le-or-lt r (n / u)) [ inl k ↦ omega (arith, mul-le-mul-right u k) | inr k ↦ omega (arith, mul-le-mul-right u k) ]
       | inr h ↦ omega (arith, times u _ _ (h .0))
     ]
+
+-- and it is within half of u
+pub closest-half : (n u : ℕ) → 0 < u → (closest n u * u + closest n u * u ≤ n + n + u) × (n + n ≤ closest n u * u + closest n u * u + u)
+closest-half n u U =
+    let s = div-add-mod' n u in
+    let b = mod-lt n U in
+    elim (which n u) [ inl h ↦ omega (arith, times u _ _ (h .0)) | inr h ↦ omega (arith, times u _ _ (h .0)) ]
 
 -- and it does not pass a whole number
 closest-le : (n u r : ℕ) → 0 < u → n ≤ r * u → closest n u ≤ r

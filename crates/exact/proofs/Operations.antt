@@ -15,8 +15,9 @@ use lib.Ieee.Nearest.{closest, closest-same, div-same}
 use lib.Ieee.Scale.{finite, overflow}
 use Rattle.exact.specs.Value.{magnitude, signed, exact}
 use Rattle.exact.specs.Nearest.{nearestUnits, toNearest, below-zero, IsNearest}
-use Rattle.exact.proofs.Representable.{Representable}
+use Rattle.exact.specs.Representable.{Representable}
 use Rattle.exact.proofs.Difference.{all, differences}
+use Rattle.exact.proofs.Naturals.{sub-mul}
 use Rattle.exact.proofs.Signed.{signed-abs, signed-+, signed--, signed-*}
 use Rattle.exact.proofs.Values.{Whole, whole, exact-is, exact-of, exact-neg, finite-neg, common}
 use Rattle.exact.proofs.Nearest.{nearest-zero, toNearest-signed, toNearest-same}
@@ -71,9 +72,6 @@ module _ (l : ℕ) (s : Bool) (num den N : ℕ) (0<den : 0 < den) (is : num * 2 
 -- ---- the sum of ±A / C and ±B / C, which are ±a and ±b units
 difference : (L A B C a b : ℕ) → A * L ≡ a * C → B * L ≡ b * C → (A - B) * L ≡ (a - b) * C
 difference L A B C a b ea eb = sub-mul A B L ∙ ap (λ (x : ℕ). x - B * L) ea ∙ ap (λ (x : ℕ). a * C - x) eb ∙ sym (sub-mul a b C)
-  where
-    sub-mul : (a b c : ℕ) → (a - b) * c ≡ a * c - b * c
-    sub-mul a b c = mul-comm (a - b) c ∙ mul-sub c a b ∙ ap (λ (x : ℕ). x - c * b) (mul-comm c a) ∙ ap (λ (x : ℕ). a * c - x) (mul-comm c b)
 
 no-more : (L A B C a b : ℕ) → 0 < C → A * L ≡ a * C → B * L ≡ b * C → A ≤ B → a ≤ b
 no-more L A B C a b 0<C ea eb h = le-of-mul-le-mul-right (le-trans (le-of-eq (sym ea)) (le-trans (mul-le-mul-right L h) (le-of-eq eb))) 0<C

@@ -14,7 +14,8 @@ use lib.Ieee.Exact.{HasValue}
 use lib.Ieee.Scale.{finite, overflow}
 use Rattle.exact.specs.Value.{sign, magnitude, signed, exact, exactAt}
 use Rattle.exact.proofs.Naturals.{le-or-lt}
-use Rattle.exact.proofs.Representable.{Representable, representable-zero}
+use Rattle.exact.specs.Representable.{Representable}
+use Rattle.exact.proofs.Representable.{representable-zero}
 use Rattle.exact.proofs.Ring.{neg-*l}
 use Rattle.exact.proofs.Signed.{signed-neg, signed-scale}
 

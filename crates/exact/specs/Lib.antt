@@ -1,3 +1,4 @@
 pub mod Value
 pub mod Integers
 pub mod Nearest
+pub mod Representable
