@@ -18,7 +18,7 @@ use Rattle.doubles.specs.Rank.{atRank, rankDown, rankUp, largest, infini
 use Rattle.doubles.specs.Directed.{withZero, roundUp, roundDown, IsUp, IsDown}
 use Rattle.doubles.proofs.Grid.{atRank-lt, rankDown-iff}
 use Rattle.doubles.proofs.Patterns.{double-sign, neg-double}
-use Rattle.doubles.proofs.Zero.{zero-plus, exact-withZero, finite-withZero, nan-withZero, fits-withZero, neg-withZero, withZero-twice, withZero-own}
+use Rattle.doubles.proofs.Zero.{zero-plus, exact-withZero, finite-withZero, nan-withZero, fits-withZero, neg-withZero, withZero-twice, withZero-own, infinity-withZero}
 use Rattle.doubles.proofs.Directed.{round-up-law}
 
 pub rankDown-zero : (l : ℕ) → rankDown 52 l 0 ≡ 0
@@ -65,45 +65,37 @@ mirror-up l z =
     ∙ up-zero l z)
 
 -- ---- the law of `roundDown`
-reflected : Float → Float
-reflected d = withZero false (neg d)
-
 nan-neg : (d : Float) → isNan (neg d) ≡ isNan d
 unfolding isNan neg
 nan-neg nan = refl
 nan-neg (inf s) = refl
 nan-neg (fin s m e) = refl
 
-reflected-infinity : (d : Float) → reflected d ≡ inf false → d ≡ inf true
-unfolding reflected neg
-reflected-infinity nan e = let z : _≡_ {A = ℕ} 0 1 = cc in absurd (omega arith)
-reflected-infinity (inf true) e = refl
-reflected-infinity (inf false) e = sym e
-reflected-infinity (fin s zero d) e = let z : _≡_ {A = ℕ} 0 1 = cc in absurd (omega arith)
-reflected-infinity (fin s (suc m) d) e = let z : _≡_ {A = ℕ} 0 1 = cc in absurd (omega arith)
+neg-infinity : (d : Float) → neg d ≡ inf false → d ≡ inf true
+unfolding neg
+neg-infinity d e = sym (neg-neg d) ∙ ap neg e
 
--- what is least above the negative is greatest below in the mirror
-reflected-law : (l : ℕ) (z : ℤ) (d : Float) → IsUp l (negℤ z) d → IsDown l z (reflected d)
-unfolding reflected
-reflected-law l z d U = record {
-  fit = subst T (sym (fits-withZero false (neg d))) (neg-fits binary64 d (U .fit));
-  no-nan = subst (λ (b : Bool). T (not b)) (sym (nan-withZero false (neg d) ∙ nan-neg d)) (U .no-nan);
-  no-other = λ e. U .no-other (reflected-infinity d e);
-  not-above = λ t. subst (λ (w : ℤ). w ≼ z) (sym at) (neg-≼ (negℤ (exactAt l d)) z .1 (subst (λ (w : ℤ). negℤ z ≼ w) (sym (negℤ-negℤ (exactAt l d))) (U .not-below (subst T same t))));
+-- what is least not below the negative is greatest not above in the mirror
+pub down-of-up : (l : ℕ) (z : ℤ) (d : Float) → IsUp l (negℤ z) d → IsDown l z (neg d)
+down-of-up l z d U = record {
+  fit = neg-fits binary64 d (U .fit);
+  no-nan = subst (λ (b : Bool). T (not b)) (sym (nan-neg d)) (U .no-nan);
+  no-other = λ e. U .no-other (neg-infinity d e);
+  not-above = λ t. subst (λ (w : ℤ). w ≼ z) (sym (exactAt-neg l d)) (neg-≼ (negℤ (exactAt l d)) z .1 (subst (λ (w : ℤ). negℤ z ≼ w) (sym (negℤ-negℤ (exactAt l d))) (U .not-below (subst T (finite-neg d) t))));
   greatest = λ x f h o.
       let w = U .least (neg x) (subst T (sym (finite-neg x)) f) (neg-fits binary64 x h) (subst (λ (y : ℤ). negℤ z ≼ y) (sym (exactAt-neg l x)) (neg-≼ (exactAt l x) z .0 o)) in
-      (subst T (sym same) (w .0), subst (λ (y : ℤ). exact x ≼ y) (sym value) (neg-≼ (exact x) (negℤ (exact d)) .1 (subst (λ (y : ℤ). y ≼ negℤ (exact x)) (sym (negℤ-negℤ (exact d))) (subst (λ (y : ℤ). exact d ≼ y) (exact-neg x) (w .1)))));
+      (subst T (sym (finite-neg d)) (w .0), subst (λ (y : ℤ). exact x ≼ y) (sym (exact-neg d)) (neg-≼ (exact x) (negℤ (exact d)) .1 (subst (λ (y : ℤ). y ≼ negℤ (exact x)) (sym (negℤ-negℤ (exact d))) (subst (λ (y : ℤ). exact d ≼ y) (exact-neg x) (w .1)))));
 }
-  where
-    value : exact (withZero false (neg d)) ≡ negℤ (exact d)
-    value = exact-withZero false (neg d) ∙ exact-neg d
 
-    at : exactAt l (withZero false (neg d)) ≡ negℤ (exactAt l d)
-    at = ap (λ (y : ℤ). y *ℤ pos (2 ^ l)) (exact-withZero false (neg d)) ∙ exactAt-neg l d
-
-    same : finite (withZero false (neg d)) ≡ finite d
-    same = finite-withZero false (neg d) ∙ finite-neg d
+-- the sign of a zero does not matter
+down-withZero : (l : ℕ) (z : ℤ) (s : Bool) (d : Float) → IsDown l z d → IsDown l z (withZero s d)
+down-withZero l z s d D = record {
+  fit = subst T (sym (fits-withZero s d)) (D .fit);
+  no-nan = subst (λ (b : Bool). T (not b)) (sym (nan-withZero s d)) (D .no-nan);
+  no-other = λ e. D .no-other (infinity-withZero s false d e);
+  not-above = λ t. subst (λ (w : ℤ). w *ℤ pos (2 ^ l) ≼ z) (sym (exact-withZero s d)) (D .not-above (subst T (finite-withZero s d) t));
+  greatest = λ x f h o. let w = D .greatest x f h o in (subst T (sym (finite-withZero s d)) (w .0), subst (λ (y : ℤ). exact x ≼ y) (sym (exact-withZero s d)) (w .1));
+}
 
 pub round-down-law : (l : ℕ) (z : ℤ) → IsDown l z (roundDown l z)
-unfolding reflected
-round-down-law l z = subst (IsDown l z) (sym (mirror l z)) (reflected-law l z (roundUp l (negℤ z)) (round-up-law l (negℤ z)))
+round-down-law l z = subst (IsDown l z) (sym (mirror l z)) (down-withZero l z false (neg (roundUp l (negℤ z))) (down-of-up l z (roundUp l (negℤ z)) (round-up-law l (negℤ z))))

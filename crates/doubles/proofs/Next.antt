@@ -18,7 +18,7 @@ use Rattle.doubles.specs.Rank.{largest, double}
 use Rattle.doubles.specs.Directed.{withZero, roundUp, roundDown, IsUp, IsDown}
 use Rattle.doubles.specs.Neighbours.{nextUp, nextDown, IsNextUp, IsNextDown}
 use Rattle.doubles.proofs.Patterns.{neg-double}
-use Rattle.doubles.proofs.Zero.{exact-withZero, finite-withZero, nan-withZero, fits-withZero, neg-withZero}
+use Rattle.doubles.proofs.Zero.{exact-withZero, finite-withZero, nan-withZero, fits-withZero, neg-withZero, infinity-withZero}
 use Rattle.doubles.proofs.Directed.{round-up-law}
 use Rattle.doubles.proofs.Mirror.{mirror, round-down-law}
 
@@ -58,12 +58,6 @@ half-below a b = (to a b, from a b)
     from = all _ λ a a'. all _ λ b b'. simp differences (λ h. omega arith)
 
 -- ---- least above, greatest below
-infinity-withZero : (s t : Bool) (d : Float) → withZero s d ≡ inf t → d ≡ inf t
-infinity-withZero s t nan e = e
-infinity-withZero s t (inf u) e = e
-infinity-withZero s t (fin u zero d) e = let z : _≡_ {A = ℕ} 0 1 = cc in absurd (omega arith)
-infinity-withZero s t (fin u (suc m) d) e = e
-
 next-of-up : (x d : Float) → IsUp 1 (exactAt 1 x +ℤ pos 1) d → IsNextUp x (withZero true d)
 next-of-up x d U = record {
   fit = subst T (sym (fits-withZero true d)) (U .fit);

@@ -92,3 +92,9 @@ withZero-rank s t r h k = elim (le-or-lt infinity r) [
   where
     positive : r < infinity → 0 < magnitude (double t r)
     positive l = omega (arith, magnitude-double t r l, atRank-lt 52 0 r h)
+
+pub infinity-withZero : (s t : Bool) (d : Float) → withZero s d ≡ inf t → d ≡ inf t
+infinity-withZero s t nan e = e
+infinity-withZero s t (inf u) e = e
+infinity-withZero s t (fin u zero d) e = let z : _≡_ {A = ℕ} 0 1 = cc in absurd (omega arith)
+infinity-withZero s t (fin u (suc m) d) e = e

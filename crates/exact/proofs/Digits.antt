@@ -2,8 +2,8 @@
 -- At l = 0, where a number of units is rounded to p digits.
 use mathlib.Core.Path.{_≡_, refl, sym, ap, _∙_, subst}
 use mathlib.Core.Logic.{inl, inr}
-use Prim.Native.Nat.{ℕ, zero, suc, _+_, _-_, _*_, _/_, _%_, _^_, _≤_, _<_, _∣_}
-use native.Mathlib.Nat.{le-refl, le-trans, le-of-eq, le-of-lt, lt-of-lt-of-le, not-le-of-lt, eq-or-lt-of-le, mul-assoc, mul-one, mul-pos, one-mul, mul-le-mul-right, dvd-mul-left, div-mul-cancel, div-one, one-dvd, two-pow-succ, zero-lt-suc, mod-lt, div-add-mod'}
+use Prim.Native.Nat.{ℕ, zero, suc, _+_, _-_, _*_, _/_, _^_, _≤_, _<_, _∣_}
+use native.Mathlib.Nat.{le-refl, le-trans, le-of-eq, le-of-lt, lt-of-lt-of-le, not-le-of-lt, eq-or-lt-of-le, mul-assoc, mul-one, mul-pos, one-mul, mul-le-mul-right, dvd-mul-left, div-mul-cancel, div-one, one-dvd, two-pow-succ, zero-lt-suc}
 use native.Mathlib.Omega.{arith}
 use lib.Pow.{pow-add, pow-pos, pow-mono, shl-lt}
 use lib.Ieee.{size}

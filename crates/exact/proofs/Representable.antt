@@ -25,6 +25,13 @@ representable-of p P n t d h =
       | inr l ↦ record { exp = t; dvd = d; fit = l }
     ]
 
+-- more digits hold as much
+pub representable-more : (p q n : ℕ) → p ≤ q → Representable p n → Representable q n
+representable-more p q n h R = record { exp = R .exp; dvd = R .dvd; fit = lt-of-lt-of-le (R .fit) (pow-mono (more (R .exp))) }
+  where
+    more : (e : ℕ) → p + e ≤ q + e
+    more e = omega arith
+
 -- ---- a power of two changes nothing
 pub representable-up : (p n t : ℕ) → Representable p n → Representable p (n * 2 ^ t)
 representable-up p n t R = record {

@@ -1,4 +1,4 @@
--- Integers given by a sign and a magnitude: negation, sum, product and order. Assumes nothing.
+-- Integers given by a sign and a magnitude: negation, sum, product and order; the magnitude of a difference. Assumes nothing.
 use mathlib.Core.Path.{_≡_, refl, sym}
 use mathlib.Core.Logic.{_↔_}
 use mathlib.Core.Bool.{Bool, true, false, not, true≢false}
@@ -8,7 +8,8 @@ use lib.IntN.{ℤ, pos, negsuc, negℤ, natAbs, _+ℤ_, _*ℤ_}
 use lib.Ieee.{unlike}
 use Rattle.exact.specs.Value.{signed}
 use Rattle.exact.specs.Integers.{_≼_, _≺_}
-use Rattle.exact.proofs.Difference.{differences}
+use Rattle.exact.proofs.Naturals.{distance}
+use Rattle.exact.proofs.Difference.{dif, differences}
 
 -- every integer is a sign and a magnitude
 pub by-sign : (P : ℤ → Type 0) → ((s : Bool) (n : ℕ) → P (signed s n)) → (z : ℤ) → P z
@@ -75,3 +76,11 @@ signed-≺ false m false n = simp differences (λ h. omega arith, λ h. omega ar
 signed-≺ false m true n = simp differences (λ h. omega arith, λ h. omega arith)
 signed-≺ true m false n = simp differences (λ h. omega arith, λ h. omega arith)
 signed-≺ true m true n = simp differences (λ h. omega arith, λ h. omega arith)
+
+-- ---- how far apart two naturals are is the magnitude of their difference
+pub natAbs-dif : (a b : ℕ) → natAbs (dif a b) ≡ distance a b
+natAbs-dif a b = go (dif a b) refl
+  where
+    go : (z : ℤ) → z ≡ dif a b → natAbs z ≡ distance a b
+    go (pos n) e = omega (arith, simp differences at e)
+    go (negsuc n) e = omega (arith, simp differences at e)

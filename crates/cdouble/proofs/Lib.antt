@@ -1,0 +1,14 @@
+pub mod Sterbenz
+pub mod SignedRounding
+pub mod Knuth
+pub mod Veltkamp
+pub mod Dekker
+pub mod Product
+pub mod Steps
+pub mod RoundedUp
+pub mod TwoSum
+pub mod SignedSteps
+pub mod SplitParts
+pub mod TwoProduct
+pub mod Consequences
+pub mod Contracts

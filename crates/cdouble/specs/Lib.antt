@@ -1,0 +1,2 @@
+pub mod Compensated
+pub mod Exactness
