@@ -4,10 +4,11 @@
 // A line of the table is an operation's letter, its two arguments and the right answer, with a space between them:
 // `U 3FF0000000000000 3CA0000000000000 3FF0000000000001`. A number is the 16 digits of a double's bit pattern. An
 // operation on one number has it twice. A line of any other form counts as one that differs.
-ghost use mathlib.Core.Path.{_≡_};
-ghost use Prim.Native.Nat.{_<_, _≤_};
-ghost use lib.Ieee.{binary64, ofBits, toBits};
-ghost use Rattle.edge_table.specs.Table.{digitOf, digits};
+use tables::Value;
+use tables::bits_of;
+use tables::count;
+use tables::double_of;
+use tables::number;
 
 // Bytes in a line, its end included.
 const LINE: usize = 53;
@@ -20,73 +21,8 @@ const ALL: usize = 11;
 // How many lines that differ are printed.
 const SHOWN: u64 = 20;
 
-enum Value {
-    Is(u64),
-    Bad,
-}
-
-// The value of a digit 0-9A-F, 16 for any other byte.
-fn digit(c: u8) -> u64
-    ensures { λ r. ⌜ (r ≡ digitOf c) × (r ≤ 16) ⌝ }
-{
-    if c < 48 {
-        16
-    } else if c < 58 {
-        (c - 48) as u64
-    } else if c < 65 {
-        16
-    } else if c < 71 {
-        (c - 55) as u64
-    } else {
-        16
-    }
-}
-
-// The number that the 16 digits from `at` on spell.
-fn number(s: &[u8; 53], at: usize) -> Value
-    requires { ⌜ at ≤ 37 ⌝ }
-    ensures { λ r. ⌜ r ≡ digits (now (s .entry)) 16 0 at ⌝ }
-{
-    let mut value: u64 = 0;
-    let mut i = 0;
-    while i < 16 {
-        let d = digit(s[at + i]);
-        if d == 16 {
-            return Value::Bad;
-        }
-        value = value * 16 + d;
-        i += 1;
-    }
-    Value::Is(value)
-}
-
-// The double with a pattern. `from_bits` is not defined at a NaN's, so a NaN is made by a division.
-fn double_of(bits: u64) -> f64
-    ensures { λ r. ⌜ r ≡ ofBits binary64 bits ⌝ }
-{
-    if 0x7FF0_0000_0000_0000 < bits % 0x8000_0000_0000_0000 {
-        let z: f64 = 0.0;
-        z / z
-    } else {
-        f64::from_bits(bits)
-    }
-}
-
-// A double's pattern, the same for every NaN.
-fn bits_of(v: f64) -> u64
-    ensures { λ r. ⌜ r ≡ toBits binary64 v ⌝ }
-{
-    if v != v {
-        0x7FF8_0000_0000_0000
-    } else {
-        f64::to_bits(v)
-    }
-}
-
 // The place of an operation's counts, NONE for a letter that names none.
-fn operation(letter: u8) -> usize
-    ensures { λ r. ⌜ r ≤ 10 ⌝ }
-{
+fn operation(letter: u8) -> usize {
     match letter {
         b'a' => 0,
         b'f' => 1,
@@ -146,21 +82,6 @@ fn holds(s: &[u8; 53], op: usize) -> bool {
     answer(op, double_of(a), double_of(b)) == right
 }
 
-// One more, and no more where a count can't grow.
-fn more(n: u64) -> u64 {
-    if n < u64::MAX { n + 1 } else { n }
-}
-
-// Counts a line at a place.
-fn count(at: usize, ok: bool, ran: &mut [u64; 12], differ: &mut [u64; 12])
-    requires { ⌜ at < 12 ⌝ }
-{
-    ran[at] = more(ran[at]);
-    if !ok {
-        differ[at] = more(differ[at]);
-    }
-}
-
 // Runs the next line, and answers whether there may be another. What is left of a line cut short stays 0, so such a
 // line has not the form of one. The first lines that differ are printed.
 fn run_line(ran: &mut [u64; 12], differ: &mut [u64; 12]) -> bool {
@@ -171,14 +92,19 @@ fn run_line(ran: &mut [u64; 12], differ: &mut [u64; 12]) -> bool {
     }
     let op = operation(line[0]);
     let ok = holds(&line, op);
-    count(op, ok, ran, differ);
-    count(ALL, ok, ran, differ);
-    if !ok && differ[ALL] <= SHOWN {
-        io::write_all(1, &line);
+    count(ran, op);
+    count(ran, ALL);
+    if !ok {
+        count(differ, op);
+        count(differ, ALL);
+        if differ[ALL] <= SHOWN {
+            io::write_all(1, &line);
+        }
     }
     n == LINE
 }
 
+// Writes how many cases were run and how many differ, after a name.
 fn report(name: &[u8], ran: u64, differ: u64) {
     io::write_all(1, name);
     io::print_decimal(1, ran);

@@ -1,11 +1,11 @@
--- `edge_table::double_of` makes the double of a pattern, and asks for none of a NaN's. Assumes nothing.
+-- `tables::double_of` makes the double of a pattern, and asks for none of a NaN's. Assumes nothing.
 use mathlib.Core.Path.{sym, subst, _∙_}
 use mathlib.Core.Bool.{Bool, not}
 use lib.Dec.{T}
-use Rattle.edge_table.proofs.Laws.{nan-above, not-nan, zero-by-zero}
+use Rattle.tables.proofs.Laws.{nan-above, not-nan, zero-by-zero}
 use borrow.Author.Needs.{needs}
-use Rattle.edge_table.proofs.double_of.Statement.{statement}
-use Rattle.edge_table.proofs.double_of.Tie as tie
+use Rattle.tables.proofs.double_of.Statement.{statement}
+use Rattle.tables.proofs.double_of.Tie as tie
 
 float-from-bits-result : tie.Need-float-from-bits-result
 float-from-bits-result c = subst (λ (b : Bool). T (not b)) (sym (not-nan _ (c .if1 .left))) tt

@@ -1,19 +1,19 @@
 -- Laws that the proofs of the decoding functions cite. Assumes nothing.
 use mathlib.Core.Path.{_≡_, refl, sym, _∙_, subst}
-use mathlib.Core.Bool.{true, false, not}
+use mathlib.Core.Bool.{Bool, true, false, not, cond}
 use mathlib.Core.List.{List}
 use Prim.Native.Nat.{ℕ, zero, suc, _+_, _-_, _*_, _^_, _%_, _<_, _≤_}
 use native.Mathlib.Nat.{pow-suc, one-le-pow, pow-le-pow-right}
 use native.Mathlib.Omega.{arith}
-use lib.ListN.{getD}
-use lib.Dec.{T}
+use lib.ListN.{getD, length, List·getD-eq-default}
+use lib.Dec.{T, eqb}
 use lib.Ieee.{Float, nan, inf, fin, isNan, ne, div, odd, ofFields, ofBits, toBits, nanBits, binary64}
 use lib.Ieee.Bits.{nanBits-is, nanBits-above}
 use lib.Ieee.Compare.{differs-from-itself, nan-differs}
 use borrow.Author.Tests.{lt-ltb, le-ltb, eq-eqb, ne-eqb}
-use Rattle.edge_table.specs.Table.{digitOf, digits}
-use Rattle.edge_table.specs.declared.Value.{Value}
-use Rattle.edge_table.specs.declared.Value.the-variants.{Is, Bad}
+use Rattle.tables.specs.Table.{digitOf, digits}
+use Rattle.tables.specs.declared.Value.{Value}
+use Rattle.tables.specs.declared.Value.the-variants.{Is, Bad}
 
 -- a digit more, and a byte that is none
 pub digits-more : (s : List ℕ) (left v at : ℕ) → 0 < left → (digitOf (getD s at 0) ≡ 16 → ⊥)
@@ -30,6 +30,18 @@ digits-bad s (suc left) v at h k = simp (eq-eqb _ _ k)
 pub digits-end : (s : List ℕ) (v at : ℕ) → digits s 0 v at ≡ Is v
 unfolding digits
 digits-end s v at = refl
+
+-- where the bytes end before the last digit, one is missing
+same-either : (b : Bool) (x : Value) → cond b x x ≡ x
+same-either true x = refl
+same-either false x = refl
+
+pub digits-short : (s : List ℕ) (left v at : ℕ) → 0 < left → length s < at + left → digits s left v at ≡ Bad
+unfolding digits
+digits-short s zero v at h k = absurd (omega arith)
+digits-short s (suc zero) v at h k = digits-bad s 1 v at h (rw (List·getD-eq-default s 0 {n = at} (omega arith)))
+digits-short s (suc (suc left)) v at h k =
+    rw (digits-short s (suc left) (v * 16 + digitOf (getD s at 0)) (at + 1) (omega arith) (omega arith)) (same-either (eqb (digitOf (getD s at 0)) 16) Bad)
 
 -- a turn of the loop that reads 16 digits
 pub digits-turn : (s : List ℕ) (at v i d : ℕ) → i < 16 → d ≡ digitOf (getD s (at + i) 0) → (d ≡ 16 → ⊥)

@@ -1,8 +1,8 @@
--- `edge_table::bits_of` answers the pattern, and asks for none of a NaN. Assumes nothing.
-use Rattle.edge_table.proofs.Laws.{same-or-nan, nan-bits}
+-- `tables::bits_of` answers the pattern, and asks for none of a NaN. Assumes nothing.
+use Rattle.tables.proofs.Laws.{same-or-nan, nan-bits}
 use borrow.Author.Needs.{needs}
-use Rattle.edge_table.proofs.bits_of.Statement.{statement}
-use Rattle.edge_table.proofs.bits_of.Tie as tie
+use Rattle.tables.proofs.bits_of.Statement.{statement}
+use Rattle.tables.proofs.bits_of.Tie as tie
 
 float-to-bits-result : tie.Need-float-to-bits-result
 float-to-bits-result c = same-or-nan _ (c .if1 .left)

@@ -1,9 +1,9 @@
--- `edge_table::digit` answers `digitOf`. Assumes nothing.
+-- `tables::digit` answers `digitOf`. Assumes nothing.
 use native.Mathlib.Omega.{arith}
 use borrow.Author.Tests.{lt-ltb, le-ltb}
 use borrow.Author.Needs.{needs}
-use Rattle.edge_table.proofs.digit.Statement.{statement}
-use Rattle.edge_table.proofs.digit.Tie as tie
+use Rattle.tables.proofs.digit.Statement.{statement}
+use Rattle.tables.proofs.digit.Tie as tie
 
 cast-result : tie.Need-cast-result
 cast-result c = search needs
