@@ -8,7 +8,7 @@ use lib.Count.{trailingZeros}
 use Rattle.doubles.specs.Neighbours.{nextUp, nextDown}
 use Rattle.doubles.specs.Compare.{larger}
 use Rattle.cdouble.specs.declared.CDouble.{CDouble}
-use Rattle.cdouble.specs.Compensated.{_⊕_, _⊗_, _⊘_, whole, plusZero, upper, lower, normalized, rounded, value, negated, absUp, unitError, compensatedError}
+use Rattle.cdouble.specs.Compensated.{_⊕_, _⊗_, _⊘_, asF64, plusZero, upper, lower, normalized, rounded, value, negated, absUp, unitError, compensatedError}
 
 pub carried : {A : Type 0} {r d : A} {R : Type 0} (P : A → Type 0) → r ≡ d → (R → P d) → (r ≡ d) × (R → P r)
 carried P e f = (e, λ x. subst P (sym e) (f x))
@@ -60,12 +60,12 @@ unfolding absUp
 abs-up-is c e t f g = g ∙ ap (λ (d : CDouble). rounded d true) (f ∙ sym (by (negated c) c t) ∙ ap (λ (x : Float). cond (lt x plusZero) (negated c) c) e)
 
 -- ---- `compensated_error`, from what its calls gave: longest and terms as doubles, and the scale
-pub compensated-is : (terms longest : ℕ) (m : Float) {l x t : Float} → l ≡ whole longest → x ≡ larger ((l ⊕ fin false 1 (pos 1)) ⊘ fin false 1 (pos 3)) (fin false 1 (pos 0)) → t ≡ whole terms
+pub compensated-is : (terms longest : ℕ) (m : Float) {l x t : Float} → l ≡ asF64 longest → x ≡ larger ((l ⊕ fin false 1 (pos 1)) ⊘ fin false 1 (pos 3)) (fin false 1 (pos 0)) → t ≡ asF64 terms
     → (t ⊕ fin false 1 (pos 0)) ⊗ x ⊗ unitError ⊗ m ≡ compensatedError terms longest m
 unfolding compensatedError
 compensated-is terms longest m {x = x} e f g =
     ap (λ (y : Float). (y ⊕ fin false 1 (pos 0)) ⊗ x ⊗ unitError ⊗ m) g
-    ∙ ap (λ (y : Float). (whole terms ⊕ fin false 1 (pos 0)) ⊗ y ⊗ unitError ⊗ m) (f ∙ ap (λ (y : Float). larger ((y ⊕ fin false 1 (pos 1)) ⊘ fin false 1 (pos 3)) (fin false 1 (pos 0))) e)
+    ∙ ap (λ (y : Float). (asF64 terms ⊕ fin false 1 (pos 0)) ⊗ y ⊗ unitError ⊗ m) (f ∙ ap (λ (y : Float). larger ((y ⊕ fin false 1 (pos 1)) ⊘ fin false 1 (pos 3)) (fin false 1 (pos 0))) e)
 
 -- the constant, as the compiler works it out
 pub unit-error : unitError ≡ ofBits binary64 0x39B0_0000_0000_0000

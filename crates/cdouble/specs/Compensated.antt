@@ -24,8 +24,8 @@ abbrev pub _⊘_ : Float → Float → Float
 a ⊘ b = div binary64 a b
 
 -- a whole number as a double, as in Rust's `as f64`
-abbrev pub whole : ℕ → Float
-whole n = ofInt binary64 (pos n)
+abbrev pub asF64 : ℕ → Float
+asF64 n = ofInt binary64 (pos n)
 
 -- ---- "A double-double is a pair hi, lo": the type is the code's own
 abbrev pub pair : Float → Float → CDouble
@@ -103,5 +103,5 @@ unitError = fin false 1 (pos 4) ⊗ fin false 1 (negsuc 103)
 
 unfoldable pub compensatedError : ℕ → ℕ → Float → Float
 compensatedError terms longest magnitude =
-    let scale = larger ((whole longest ⊕ fin false 1 (pos 1)) ⊘ fin false 1 (pos 3)) (fin false 1 (pos 0)) in
-    (whole terms ⊕ fin false 1 (pos 0)) ⊗ scale ⊗ unitError ⊗ magnitude
+    let scale = larger ((asF64 longest ⊕ fin false 1 (pos 1)) ⊘ fin false 1 (pos 3)) (fin false 1 (pos 0)) in
+    (asF64 terms ⊕ fin false 1 (pos 0)) ⊗ scale ⊗ unitError ⊗ magnitude
