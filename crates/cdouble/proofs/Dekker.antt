@@ -7,7 +7,7 @@ use native.Mathlib.Omega.{arith}
 use lib.Pow.{pow-add, pow-pos, pow-mono}
 use Rattle.exact.specs.Nearest.{nearestUnits}
 use Rattle.exact.specs.Representable.{Representable}
-use Rattle.exact.proofs.Naturals.{le-or-lt, pow-dvd, distance, distance-dvd, distance-mul}
+use Rattle.exact.proofs.Naturals.{le-or-lt, pow-dvd, distance, Within, distance-dvd, distance-mul}
 use Rattle.exact.proofs.Representable.{representable-of, representable-down}
 use Rattle.exact.proofs.Digits.{nearest-error, nearest-multiple}
 use Rattle.cdouble.proofs.Veltkamp.{Split, pow-digits, dvd-product}
@@ -43,9 +43,6 @@ differences-down p t ab ah hb hh x D = record {
     downs m n i j R = down (m + n) (i + j) (subst (λ (z : ℕ). Representable p (distance z ((i + j) * 2 ^ t))) (sym (add-mul m n (2 ^ t))) (subst (λ (z : ℕ). Representable p (distance (m * 2 ^ t + n * 2 ^ t) z)) (sym (add-mul i j (2 ^ t))) R))
 
 -- ---- products of numbers that are near each other
-abbrev Within : ℕ → ℕ → ℕ → Type 0
-Within k a b = (a ≤ b + k) × (b ≤ a + k)
-
 abbrev Apart : ℕ → ℕ → ℕ → Type 0
 Apart a b d = (a ≡ b + d) ⊎ (b ≡ a + d)
 

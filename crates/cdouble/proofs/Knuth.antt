@@ -8,11 +8,11 @@ use lib.Dec.{lit<}
 use lib.IntN.{ℤ, natAbs, _+ℤ_, _-ℤ_}
 use Rattle.exact.specs.Representable.{Representable}
 use Rattle.exact.specs.Nearest.{toNearest}
-use Rattle.exact.proofs.Naturals.{le-or-lt, distance}
+use Rattle.exact.proofs.Naturals.{le-or-lt, distance, Within}
 use Rattle.exact.proofs.Difference.{dif, all, differences}
 use Rattle.exact.proofs.Signed.{natAbs-dif}
 use Rattle.cdouble.proofs.Sterbenz.{round, along, round-ge, round-le, round-representable, difference-error, alike-x-less-z, alike-b-less-z, larger-z, smaller-x-less-z, smaller-b-less-z}
-use Rattle.cdouble.proofs.SignedRounding.{Rounded, Within, rounded-positive, rounded-negative, rounded-representable, rounded-error, rounded-near, toNearest-rounded}
+use Rattle.cdouble.proofs.SignedRounding.{Rounded, rounded-positive, rounded-negative, rounded-representable, rounded-error, rounded-near, toNearest-rounded}
 
 -- a - b = d - c gives |a - b| = |c - d|
 same-distance : (a b c d : ℕ) → a + c ≡ b + d → distance a b ≡ distance c d

@@ -6,6 +6,7 @@ pub mod Dekker
 pub mod Product
 pub mod Steps
 pub mod RoundedUp
+pub mod Ranges
 pub mod TwoSum
 pub mod SignedSteps
 pub mod SplitParts

@@ -10,7 +10,7 @@ use lib.Ieee.{size}
 use lib.Pow.{pow-add, pow-pos, pow-mono, shl-lt, shr-lt, ones-lt, le-ones}
 use Rattle.exact.specs.Nearest.{nearestUnits}
 use Rattle.exact.specs.Representable.{Representable}
-use Rattle.exact.proofs.Naturals.{le-or-lt, pow-dvd, distance}
+use Rattle.exact.proofs.Naturals.{le-or-lt, pow-dvd}
 use Rattle.exact.proofs.Representable.{representable-zero, representable-of}
 use Rattle.exact.proofs.Nearest.{nearest-ge, nearest-le, nearest-whole, nearest-zero}
 use Rattle.exact.proofs.Digits.{nearest-shift}
@@ -21,7 +21,7 @@ use Rattle.cdouble.proofs.Dekker.{Differences, differences, differences
 abbrev pub high64 : ℕ → ℕ
 high64 A = high 52 27 A
 
--- the four products of a factor or its high half with the other, in units (n 2 ^ 1074 each), and what of them has 53 digits
+-- the four products of a factor or its high half with the other, in units (n 2 ^ 1074 each), what of them has 53 digits, and that sums of two stay in range
 pub record Terms (A B x : ℕ) : Type 0 where
   pub ab : ℕ
   pub ah : ℕ
@@ -31,14 +31,7 @@ pub record Terms (A B x : ℕ) : Type 0 where
   pub ah-is : A * high64 B ≡ ah * 2 ^ 1074
   pub hb-is : high64 A * B ≡ hb * 2 ^ 1074
   pub hh-is : high64 A * high64 B ≡ hh * 2 ^ 1074
-  pub hh-digits : Representable 53 hh
-  pub lh-digits : Representable 53 (distance ah hh)
-  pub hl-digits : Representable 53 (distance hb hh)
-  pub ll-digits : Representable 53 (distance (ab + hh) (ah + hb))
-  pub first : Representable 53 (distance x hh)
-  pub second : Representable 53 (distance x ah)
-  pub third : Representable 53 (distance (x + hh) (ah + hb))
-  pub last : Representable 53 (distance ab x)
+  pub short : Differences 53 ab ah hb hh x
   pub cap-hh : ab + hh ≤ 2 ^ 2097
   pub cap-mid : ah + hb ≤ 2 ^ 2097
   pub cap-x : x + hh ≤ 2 ^ 2097
@@ -174,14 +167,7 @@ some-terms A B RA RB A⁺ B⁺ reach top =
       ah-is = ah-is;
       hb-is = hb-is;
       hh-is = hh-is;
-      hh-digits = D .hh-digits;
-      lh-digits = D .lh-digits;
-      hl-digits = D .hl-digits;
-      ll-digits = D .ll-digits;
-      first = D .first;
-      second = D .second;
-      third = D .third;
-      last = D .last;
+      short = D;
       cap-hh = C .0;
       cap-mid = C .1 .0;
       cap-x = C .1 .1;
@@ -204,14 +190,7 @@ all-zero A B x ab-is ah-is hb-is hh-is x-is =
       ah-is = ah-is ∙ to-units;
       hb-is = hb-is ∙ to-units;
       hh-is = hh-is ∙ to-units;
-      hh-digits = R;
-      lh-digits = R;
-      hl-digits = R;
-      ll-digits = R;
-      first = R;
-      second = R;
-      third = R;
-      last = R;
+      short = record { hh-digits = R; lh-digits = R; hl-digits = R; ll-digits = R; first = R; second = R; third = R; last = R };
       cap-hh = zero-le;
       cap-mid = zero-le;
       cap-x = zero-le;
@@ -220,7 +199,7 @@ all-zero A B x ab-is ah-is hb-is hh-is x-is =
 high64-zero : high64 0 ≡ 0
 high64-zero = high-zero 52 27
 
-rounded-zero : (n : ℕ) → n ≡ 0 → nearestUnits 53 1074 n ≡ 0
+pub rounded-zero : (n : ℕ) → n ≡ 0 → nearestUnits 53 1074 n ≡ 0
 rounded-zero n e = ap (nearestUnits 53 1074) e ∙ nearest-zero 1074
 
 pub terms-zero-l : (B : ℕ) → Terms 0 B (nearestUnits 53 1074 (0 * B))

@@ -3,14 +3,14 @@
 use mathlib.Core.Path.{_≡_, refl, sym, ap, _∙_}
 use mathlib.Core.Logic.{inl, inr}
 use mathlib.Core.Bool.{Bool, true, false}
-use Prim.Native.Nat.{ℕ, _+_, _-_, _≤_, _<_}
+use Prim.Native.Nat.{ℕ, _+_, _-_, _<_}
 use native.Mathlib.Nat.{le-of-lt}
 use native.Mathlib.Omega.{arith}
 use lib.IntN.{ℤ}
 use Rattle.exact.specs.Value.{signed}
 use Rattle.exact.specs.Representable.{Representable}
 use Rattle.exact.specs.Nearest.{toNearest}
-use Rattle.exact.proofs.Naturals.{le-or-lt, distance}
+use Rattle.exact.proofs.Naturals.{le-or-lt, distance, Within}
 use Rattle.exact.proofs.Representable.{representable-zero}
 use Rattle.exact.proofs.Difference.{dif, differences}
 use Rattle.exact.proofs.Signed.{by-sign}
@@ -20,10 +20,6 @@ use Rattle.cdouble.proofs.Sterbenz.{round, along, round-ge, round-le, r
 -- x - x' is n - n' rounded
 abbrev pub Rounded : ℕ → ℕ → ℕ → ℕ → ℕ → Type 0
 Rounded p n n' x x' = x + round p (n' - n) ≡ x' + round p (n - n')
-
--- |a - a'| ≤ k
-abbrev pub Within : ℕ → ℕ → ℕ → Type 0
-Within k a a' = (a ≤ a' + k) × (a' ≤ a + k)
 
 module _ (p : ℕ) (P : 0 < p) where
   pub rounded-positive : (n n' x x' m : ℕ) → n ≡ n' + m → Rounded p n n' x x' → x ≡ x' + round p m

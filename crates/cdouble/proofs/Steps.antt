@@ -2,7 +2,6 @@
 use mathlib.Core.Path.{_≡_, refl, sym, ap, _∙_, subst}
 use Prim.Native.Nat.{ℕ, _*_, _^_, _≤_, _<_}
 use native.Mathlib.Nat.{le-trans, le-of-eq, lt-of-le-of-lt, mul-one}
-use native.Mathlib.Omega.{arith}
 use lib.IntN.{ℤ, pos, natAbs, _+ℤ_, _-ℤ_, _*ℤ_}
 use lib.Dec.{T, lit<}
 use lib.Pow.{pow-pos, pow-lt}
@@ -13,11 +12,10 @@ use Rattle.exact.specs.Value.{sign, magnitude, signed, exact}
 use Rattle.exact.specs.Representable.{Representable}
 use Rattle.exact.specs.Nearest.{nearestUnits, toNearest, IsNearest}
 use Rattle.exact.proofs.Representable.{representable-zero, representable-pow}
-use Rattle.exact.proofs.Difference.{all, differences}
 use Rattle.exact.proofs.Signed.{by-sign, signed-abs, signed-scale}
 use Rattle.exact.proofs.Values.{whole, exact-is}
 use Rattle.exact.proofs.Nearest.{nearest-le, nearest-whole, toNearest-signed}
-use Rattle.exact.proofs.Operations.{exactly, add-nearest, sub-nearest, mul-nearest}
+use Rattle.exact.proofs.Operations.{exactly, by-one, add-nearest, sub-nearest, mul-nearest}
 use Rattle.cdouble.proofs.Knuth.{Exactly}
 
 -- half of the overflow threshold: what is at most this rounds to a finite double
@@ -92,9 +90,6 @@ module _ (l : ℕ) (z w : ℤ) (d : Float) (N : IsNearest l z d) (e : z ≡ w *�
   kept-step D = let v = exactly l z w d N e (D .digits) (D .small) in record { is-finite = v .0; fit = h; value = v .1 }
 
 -- ---- the operations
-by-one : (z : ℤ) → z ≡ z *ℤ pos (2 ^ 0)
-by-one = all _ λ a a'. simp differences (omega arith)
-
 module _ {a b : ℤ} {x y : Float} (u : HasExact a x) (v : HasExact b y) where
   sum : IsNearest 0 (a +ℤ b) (add binary64 x y)
   sum = rw (sym (u .value), sym (v .value)) (add-nearest x y (u .is-finite) (v .is-finite) (u .fit) (v .fit))

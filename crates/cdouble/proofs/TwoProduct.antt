@@ -18,12 +18,12 @@ use Rattle.exact.proofs.Naturals.{le-or-lt}
 use Rattle.exact.proofs.Difference.{differences}
 use Rattle.exact.proofs.Signed.{signed-abs, signed-*}
 use Rattle.exact.proofs.Values.{whole, exact-is}
-use Rattle.exact.proofs.Nearest.{toNearest-signed, nearest-zero}
+use Rattle.exact.proofs.Nearest.{toNearest-signed}
 use Rattle.exact.proofs.Operations.{mul-nearest}
 use Rattle.cdouble.specs.declared.CDouble.{CDouble}
 use Rattle.cdouble.specs.Compensated.{_⊖_, _⊗_, split, productError, twoProduct}
 use Rattle.cdouble.specs.Exactness.{AtMost, IsZero, ProductRange, IsExact}
-use Rattle.cdouble.proofs.Product.{high64, Terms, terms, terms-zero-l, terms-zero-r}
+use Rattle.cdouble.proofs.Product.{high64, Terms, terms, rounded-zero, terms-zero-l, terms-zero-r}
 use Rattle.cdouble.proofs.Steps.{top, HasExact, exact-abs}
 use Rattle.cdouble.proofs.SignedSteps.{offset, offset-signed, sub-offset, mul-offset}
 use Rattle.cdouble.proofs.SplitParts.{parts, alone}
@@ -60,7 +60,7 @@ module _ (s t : Bool) (A B x : ℕ) (K : Terms A B x) (a b : CDouble) (r : Float
   -- the four products
   hi-hi : HasExact (offset (unlike s t) (K .hh) 0) (a .hi ⊗ b .hi)
   hi-hi =
-      mul-offset (K .hh) 0 (subst (λ (n : ℕ). Representable 53 n) (sym (alone (K .hh))) (K .hh-digits)) hh≤ zero-le s t (a .hi) (b .hi) (high64 A) 0 (high64 B) 0 ahi bhi
+      mul-offset (K .hh) 0 (subst (λ (n : ℕ). Representable 53 n) (sym (alone (K .hh))) (K .short .hh-digits)) hh≤ zero-le s t (a .hi) (b .hi) (high64 A) 0 (high64 B) 0 ahi bhi
       (alone-l (high64 A * high64 B) (K .hh * L) (K .hh-is)) (none (high64 A) (high64 B) L)
     where
       alone-l : (m k : ℕ) → m ≡ k → m + 0 * 0 ≡ k
@@ -71,7 +71,7 @@ module _ (s t : Bool) (A B x : ℕ) (K : Terms A B x) (a b : CDouble) (r : Float
 
   lo-hi : HasExact (offset (unlike s t) (K .ah) (K .hh)) (a .lo ⊗ b .hi)
   lo-hi =
-      mul-offset (K .ah) (K .hh) (K .lh-digits) ah≤ hh≤ s t (a .lo) (b .hi) A (high64 A) (high64 B) 0 alo bhi
+      mul-offset (K .ah) (K .hh) (K .short .lh-digits) ah≤ hh≤ s t (a .lo) (b .hi) A (high64 A) (high64 B) 0 alo bhi
       (first (A * high64 B) (K .ah * L) (high64 A) (K .ah-is)) (second (high64 A * high64 B) (K .hh * L) A (K .hh-is))
     where
       first : (m k n : ℕ) → m ≡ k → m + n * 0 ≡ k
@@ -82,7 +82,7 @@ module _ (s t : Bool) (A B x : ℕ) (K : Terms A B x) (a b : CDouble) (r : Float
 
   hi-lo : HasExact (offset (unlike s t) (K .hb) (K .hh)) (a .hi ⊗ b .lo)
   hi-lo =
-      mul-offset (K .hb) (K .hh) (K .hl-digits) (right (K .ah) (K .hb) top (K .cap-mid)) hh≤ s t (a .hi) (b .lo) (high64 A) 0 B (high64 B) ahi blo
+      mul-offset (K .hb) (K .hh) (K .short .hl-digits) (right (K .ah) (K .hb) top (K .cap-mid)) hh≤ s t (a .hi) (b .lo) (high64 A) 0 B (high64 B) ahi blo
       (either (high64 A * B) (K .hb * L) (high64 B) (K .hb-is)) (either (high64 A * high64 B) (K .hh * L) B (K .hh-is))
     where
       either : (m k n : ℕ) → m ≡ k → m + 0 * n ≡ k
@@ -90,7 +90,7 @@ module _ (s t : Bool) (A B x : ℕ) (K : Terms A B x) (a b : CDouble) (r : Float
 
   lo-lo : HasExact (offset (unlike s t) (K .ab + K .hh) (K .ah + K .hb)) (a .lo ⊗ b .lo)
   lo-lo =
-      mul-offset (K .ab + K .hh) (K .ah + K .hb) (K .ll-digits) (K .cap-hh) (K .cap-mid) s t (a .lo) (b .lo) A (high64 A) B (high64 B) alo blo
+      mul-offset (K .ab + K .hh) (K .ah + K .hb) (K .short .ll-digits) (K .cap-hh) (K .cap-mid) s t (a .lo) (b .lo) A (high64 A) B (high64 B) alo blo
       (joined (A * B) (high64 A * high64 B) (K .ab) (K .hh) L (K .ab-is) (K .hh-is)) (joined (A * high64 B) (high64 A * B) (K .ah) (K .hb) L (K .ah-is) (K .hb-is))
     where
       joined : (m n i j l : ℕ) → m ≡ i * l → n ≡ j * l → m + n ≡ (i + j) * l
@@ -101,10 +101,10 @@ module _ (s t : Bool) (A B x : ℕ) (K : Terms A B x) (a b : CDouble) (r : Float
   unfolding productError
   error-value =
       let p = unlike s t in
-      let u = sub-offset x (K .hh) (K .first) x≤ hh≤ p r (a .hi ⊗ b .hi) x 0 (K .hh) 0 rounded hi-hi (one x (K .hh)) in
-      let v = sub-offset x (K .ah) (K .second) x≤ ah≤ p (r ⊖ a .hi ⊗ b .hi) (a .lo ⊗ b .hi) x (K .hh) (K .ah) (K .hh) u lo-hi (two x (K .hh) (K .ah)) in
-      let w = sub-offset (x + K .hh) (K .ah + K .hb) (K .third) (K .cap-x) (K .cap-mid) p ((r ⊖ a .hi ⊗ b .hi) ⊖ a .lo ⊗ b .hi) (a .hi ⊗ b .lo) x (K .ah) (K .hb) (K .hh) v hi-lo refl in
-      sub-offset (K .ab) x (K .last) (left (K .ab) (K .hh) top (K .cap-hh)) x≤ p (a .lo ⊗ b .lo) (((r ⊖ a .hi ⊗ b .hi) ⊖ a .lo ⊗ b .hi) ⊖ a .hi ⊗ b .lo) (K .ab + K .hh) (K .ah + K .hb) (x + K .hh) (K .ah + K .hb) lo-lo w
+      let u = sub-offset x (K .hh) (K .short .first) x≤ hh≤ p r (a .hi ⊗ b .hi) x 0 (K .hh) 0 rounded hi-hi (one x (K .hh)) in
+      let v = sub-offset x (K .ah) (K .short .second) x≤ ah≤ p (r ⊖ a .hi ⊗ b .hi) (a .lo ⊗ b .hi) x (K .hh) (K .ah) (K .hh) u lo-hi (two x (K .hh) (K .ah)) in
+      let w = sub-offset (x + K .hh) (K .ah + K .hb) (K .short .third) (K .cap-x) (K .cap-mid) p ((r ⊖ a .hi ⊗ b .hi) ⊖ a .lo ⊗ b .hi) (a .hi ⊗ b .lo) x (K .ah) (K .hb) (K .hh) v hi-lo refl in
+      sub-offset (K .ab) x (K .short .last) (left (K .ab) (K .hh) top (K .cap-hh)) x≤ p (a .lo ⊗ b .lo) (((r ⊖ a .hi ⊗ b .hi) ⊖ a .lo ⊗ b .hi) ⊖ a .hi ⊗ b .lo) (K .ab + K .hh) (K .ah + K .hb) (x + K .hh) (K .ah + K .hb) lo-lo w
       (four (K .ab) (K .hh) (K .ah + K .hb) x)
     where
       one : (m n : ℕ) → m + 0 + n ≡ m + (0 + n)
@@ -170,9 +170,6 @@ module _ (a b : Float) (fa : T (finite a)) (fb : T (finite b)) (ha : T (fits bin
         joined true n x l = simp differences (omega arith)
 
 -- a factor of 0: the rounded product is 0
-nothing : {n : ℕ} → n ≡ 0 → nearestUnits 53 1074 n ≡ 0
-nothing e = ap (nearestUnits 53 1074) e ∙ nearest-zero 1074
-
 at-zero : (x : Float) → IsZero x → AtMost 995 x
 at-zero x z = record { is-finite = z .0; cap = le-trans (le-of-eq (z .1)) zero-le }
 
@@ -180,12 +177,12 @@ pub two-product-exact : (a b : Float) → T (fits binary64 a) → T (fits binary
 two-product-exact a b ha hb (inl (z, rb)) =
     let fb = rb .is-finite in
     exact-of-terms a b (z .0) fb ha hb
-    (product-finite a b (z .0) fb ha hb (subst (λ (n : ℕ). n < overflow binary64) (sym (nothing (ap (λ (n : ℕ). n * magnitude b) (z .1) ∙ zero-mul (magnitude b)))) (pow-pos 2098)))
+    (product-finite a b (z .0) fb ha hb (subst (λ (n : ℕ). n < overflow binary64) (sym (rounded-zero (magnitude a * magnitude b) (ap (λ (n : ℕ). n * magnitude b) (z .1) ∙ zero-mul (magnitude b)))) (pow-pos 2098)))
     (at-zero a z) rb (subst (λ (n : ℕ). Terms n (magnitude b) (nearestUnits 53 1074 (n * magnitude b))) (sym (z .1)) (terms-zero-l (magnitude b)))
 two-product-exact a b ha hb (inr (inl (ra, z))) =
     let fa = ra .is-finite in
     exact-of-terms a b fa (z .0) ha hb
-    (product-finite a b fa (z .0) ha hb (subst (λ (n : ℕ). n < overflow binary64) (sym (nothing (ap (λ (n : ℕ). magnitude a * n) (z .1) ∙ mul-zero (magnitude a)))) (pow-pos 2098)))
+    (product-finite a b fa (z .0) ha hb (subst (λ (n : ℕ). n < overflow binary64) (sym (rounded-zero (magnitude a * magnitude b) (ap (λ (n : ℕ). magnitude a * n) (z .1) ∙ mul-zero (magnitude a)))) (pow-pos 2098)))
     ra (at-zero b z) (subst (λ (n : ℕ). Terms (magnitude a) n (nearestUnits 53 1074 (magnitude a * n))) (sym (z .1)) (terms-zero-r (magnitude a)))
 two-product-exact a b ha hb (inr (inr R)) =
     let fa = R .first .is-finite in

@@ -16,7 +16,7 @@ use Rattle.cdouble.specs.declared.CDouble.{CDouble}
 use Rattle.cdouble.specs.Compensated.{_⊗_}
 
 -- ---- the ranges
--- in magnitude at most 2 ^ k
+-- finite, and in magnitude at most 2 ^ k, which is 2 ^ (1074 + k) units
 pub record AtMost (k : ℕ) (x : Float) : Type 0 where
   pub is-finite : T (finite x)
   pub cap : magnitude x ≤ 2 ^ (1074 + k)

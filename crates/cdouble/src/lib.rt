@@ -23,7 +23,7 @@ pub struct CDouble {
 }
 
 impl CDouble {
-    /// 2^27 + 1: a product with it moves the upper half of a double's digits out of reach of the lower half.
+    /// The factor of `split`, 2^27 + 1: a difference of products with it rounds a double's lower 27 digits away.
     pub const FACTOR: f64 = 134_217_729.0;
 
     /// The allowance for the round-off of compensated sums, per term and per unit of the terms' magnitude: 16 · 2^-104.

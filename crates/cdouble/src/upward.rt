@@ -20,7 +20,7 @@ pub fn add_up(a: f64, b: f64) -> f64
     if error > 0.0 { next_up(sum) } else { sum }
 }
 
-/// `a · b`, rounded up where the product's error can be told; a tiny product comes out too small.
+/// `a · b`, rounded up where the product's error can be told; a tiny product may come out too small.
 pub fn mul_up(a: f64, b: f64) -> f64
     ensures { λ r. ⌜ (r ≡ mulUp a b) × (ProductRange a b → IsUp 1074 (exact a *ℤ exact b) r) ⌝ }
 {

@@ -9,7 +9,6 @@ use lib.Dec.{T, lit<}
 use lib.Pow.{pow-pos}
 use lib.Ieee.{Float, nan, inf, fin, binary64, isNan, neg}
 use lib.Ieee.Fits.{neg-fits}
-use lib.Ieee.Scale.{finite}
 use Rattle.exact.specs.Value.{exact, exactAt}
 use Rattle.exact.specs.Integers.{_≼_}
 use Rattle.exact.proofs.Order.{neg-≼}

@@ -2,7 +2,6 @@
 use mathlib.Core.Path.{_≡_, refl, sym, ap, _∙_, subst}
 use mathlib.Core.Logic.{inl, inr, _↔_}
 use mathlib.Core.Bool.{Bool, true, false, not}
-use Prim.Native.Nat.{ℕ, zero, suc}
 use native.Mathlib.Omega.{arith}
 use lib.IntN.{ℤ, pos, negsuc, negℤ, _+ℤ_, _*ℤ_, negℤ-negℤ}
 use lib.Dec.{T, lit<}
@@ -14,7 +13,7 @@ use Rattle.exact.specs.Integers.{_≼_, _≺_}
 use Rattle.exact.proofs.Difference.{all, differences}
 use Rattle.exact.proofs.Order.{≼-antisym, ≼-or-≺, ≺-not-≼}
 use Rattle.exact.proofs.Values.{exact-neg, exactAt-neg, finite-neg, neg-neg}
-use Rattle.doubles.specs.Rank.{largest, double}
+use Rattle.doubles.specs.Rank.{largest}
 use Rattle.doubles.specs.Directed.{withZero, roundUp, roundDown, IsUp, IsDown}
 use Rattle.doubles.specs.Neighbours.{nextUp, nextDown, IsNextUp, IsNextDown}
 use Rattle.doubles.proofs.Patterns.{neg-double}

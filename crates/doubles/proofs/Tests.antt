@@ -44,7 +44,7 @@ pub finite-test : (x : Float) → T (not (isNan x)) → T (fits binary64 x) → 
 finite-test x t h = ap (λ (n : ℕ). ltb n infinity) (rank-bits x t h) ∙ finite-rankOf x t h
 
 -- ---- absolute value
-fits-sign : (s t : Bool) (m : ℕ) (e : _) → T (fits binary64 (fin s m e)) → T (fits binary64 (fin t m e))
+pub fits-sign : (s t : Bool) (m : ℕ) (e : _) → T (fits binary64 (fin s m e)) → T (fits binary64 (fin t m e))
 unfolding fits
 fits-sign s t zero e h = h
 fits-sign s t (suc m) e h = h

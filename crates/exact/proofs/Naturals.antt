@@ -26,6 +26,10 @@ pow-dvd i j n h d = dvd-trans (2 ^ i) (subst (λ (x : ℕ). 2 ^ i ∣ x) (sym (p
 abbrev pub distance : ℕ → ℕ → ℕ
 distance a b = (a - b) + (b - a)
 
+-- |a - b| ≤ k
+abbrev pub Within : ℕ → ℕ → ℕ → Type 0
+Within k a b = (a ≤ b + k) × (b ≤ a + k)
+
 pub distance-dvd : (k a b : ℕ) → k ∣ a → k ∣ b → k ∣ distance a b
 distance-dvd k a b d e = dvd-add k (dvd-sub k d e) (dvd-sub k e d)
 

@@ -142,7 +142,7 @@ exactly l z w d N e R b =
     (v .0, v .1 ∙ same)
 
 -- at l = 0
-by-one : (z : ℤ) → z ≡ z *ℤ pos (2 ^ 0)
+pub by-one : (z : ℤ) → z ≡ z *ℤ pos (2 ^ 0)
 by-one = all _ λ a a'. simp differences (omega arith)
 
 module _ (a b : Float) (fa : T (finite a)) (fb : T (finite b)) (ha : T (fits binary64 a)) (hb : T (fits binary64 b)) where
