@@ -20,33 +20,19 @@ more, as that a pair is exact or an answer the least double not below, each is h
 table is written where one fails.
 """
 import math
+import os
 import random
 import struct
 import sys
 from fractions import Fraction
 
-SIGN = 1 << 63
-INF = 0x7FF << 52
-NAN = 0x7FF8 << 48
-MAX = INF - 1
-NORMAL = 1 << 52  # the smallest normal number; NORMAL - 1 is the largest subnormal, 1 the smallest
-ONE = 1023 << 52
+# beside the tables' folders; no compiled copy of it is left there
+sys.dont_write_bytecode = True
+sys.path.insert(0, os.path.join(os.path.dirname(os.path.abspath(__file__)), '..'))
+from table import INF, MAX, NAN, NORMAL, ONE, SIGN, both_signs, main, minus, one, power  # noqa: E402
 
 
 # ---- patterns and doubles
-
-def power(k, m=0):
-    """The pattern of (1 + m / 2^52) 2^k, for k from -1022 on, and of 2^k, for k from -1074 on."""
-    return 1 << k + 1074 if k < -1022 else k + 1023 << 52 | m
-
-
-def minus(b):
-    return b ^ SIGN
-
-
-def one(b):
-    return NAN if b & ~SIGN > INF else b
-
 
 def double(b):
     return struct.unpack('>d', b.to_bytes(8, 'big'))[0]
@@ -372,12 +358,6 @@ def drawn_products(draw):
         yield draw.getrandbits(draw.randint(1, 52)), signed(draw, draw.randint(40, 995))
 
 
-def both_signs(pairs):
-    """Each pair, with equal signs and with different ones, the larger number first and last."""
-    for a, b in pairs:
-        yield from ((a, b), (minus(b), minus(a)), (a, minus(b)), (b, minus(a)))
-
-
 def mixed(draw, width, count):
     """Special values in every place."""
     values = specials()
@@ -480,16 +460,4 @@ def lines():
     yield from dict.fromkeys(line(letter, patterns) for letter, patterns in cases())
 
 
-def main(words):
-    table = ''.join(lines())
-    if not words:
-        sys.stdout.write(table)
-    elif len(words) == 2 and words[0] == '--check':
-        with open(words[1], newline='') as file:
-            if file.read() != table:
-                sys.exit(f'{words[1]} is not what generate.py writes')
-    else:
-        sys.exit(__doc__)
-
-
-main(sys.argv[1:])
+main(lines(), __doc__, sys.argv[1:])

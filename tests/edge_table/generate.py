@@ -12,32 +12,18 @@ double's bit pattern. An operation on one number has it twice. is_finite answers
 
 The answers are found by exact arithmetic on the patterns, with no arithmetic of the machine's doubles.
 """
+import os
 import random
 import sys
 from fractions import Fraction
 
-SIGN = 1 << 63
-INF = 0x7FF << 52
-NAN = 0x7FF8 << 48
-MAX = INF - 1
-NORMAL = 1 << 52  # the smallest normal number; NORMAL - 1 is the largest subnormal, 1 the smallest
-ONE = 1023 << 52
+# beside the tables' folders; no compiled copy of it is left there
+sys.dont_write_bytecode = True
+sys.path.insert(0, os.path.join(os.path.dirname(os.path.abspath(__file__)), '..'))
+from table import INF, MAX, NAN, NORMAL, ONE, SIGN, both_signs, is_nan, main, minus, one, power  # noqa: E402
 
 
 # ---- patterns and their values
-
-def power(k, m=0):
-    """The pattern of (1 + m / 2^52) 2^k, for k from -1022 on, and of 2^k, for k from -1074 on."""
-    return 1 << k + 1074 if k < -1022 else k + 1023 << 52 | m
-
-
-def minus(b):
-    return b ^ SIGN
-
-
-def is_nan(b):
-    return b & ~SIGN > INF
-
 
 def is_finite(b):
     return b & ~SIGN < INF
@@ -90,10 +76,6 @@ def round_up(v):
 
 
 # ---- the operations
-
-def one(a):
-    return NAN if is_nan(a) else a
-
 
 def next_up(a):
     """The least double at least half a smallest step above; a zero comes from below, so it is -0."""
@@ -247,12 +229,6 @@ def drawn():
         yield draw.getrandbits(52), draw.getrandbits(1) << 63 | draw.getrandbits(draw.randint(1, 52))
 
 
-def both_signs(pairs):
-    """Each pair, with equal signs and with different ones, the larger number first and last."""
-    for a, b in pairs:
-        yield from ((a, b), (minus(b), minus(a)), (a, minus(b)), (b, minus(a)))
-
-
 # ---- the table
 
 def lines():
@@ -268,16 +244,4 @@ def lines():
             yield f'{letter} {a:016X} {b:016X} {answer(a, b):016X}\n'
 
 
-def main(words):
-    table = ''.join(lines())
-    if not words:
-        sys.stdout.write(table)
-    elif len(words) == 2 and words[0] == '--check':
-        with open(words[1], newline='') as file:
-            if file.read() != table:
-                sys.exit(f'{words[1]} is not what generate.py writes')
-    else:
-        sys.exit(__doc__)
-
-
-main(sys.argv[1:])
+main(lines(), __doc__, sys.argv[1:])
