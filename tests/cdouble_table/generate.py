@@ -15,9 +15,9 @@ a double's bit pattern, or a count. Arguments and answers that an operation does
     A add_up a b                M mul_up a b                 D distance_up a b
     e compensated_error terms longest magnitude
 
-The answers are those of the machine's doubles, operation for operation in the Rust's order. Where the documents promise
-more, as that a pair is exact or an answer the least double not below, each is held to that by exact arithmetic, and no
-table is written where one fails.
+The answers are those of the machine's doubles, operation for operation in the Rust's order. Where more is promised, as
+that a pair is exact or an answer the least double not below, each is held to that by exact arithmetic; add and its kin
+and compensated_error, of which no more is promised, to a bound on their error. No table is written where one fails.
 """
 import math
 import os

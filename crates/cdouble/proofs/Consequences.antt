@@ -108,7 +108,7 @@ abs-up-in-range c h l R =
     abs-up-least c (exact (c .hi) +ℤ exact (c .lo)) (normalized-exact c h l R)
     (subst (λ (z : ℤ). IsExact 0 z (normalized (negated c))) (negated-sum (c .hi) (c .lo)) (normalized-exact (negated c) (neg-fits binary64 (c .hi) h) (neg-fits binary64 (c .lo) l) (at-most-neg 1022 (c .hi) (R .0), at-most-neg 1022 (c .lo) (R .1))))
 
--- ---- distance: a pair that is exact is not changed by another two-sum, so the range is that of one
+-- ---- distance: a pair that is exact stays so under another two-sum, so the range is that of one
 pub normalized-again : (c : CDouble) (z : ℤ) → T (fits binary64 (c .hi)) → T (fits binary64 (c .lo)) → IsExact 0 z c → IsExact 0 z (normalized c)
 unfolding normalized
 normalized-again c z h l E =

@@ -13,38 +13,12 @@ use Rattle.cdouble.specs.Compensated.{_⊕_, _⊗_, _⊘_, asF64, plusZe
 pub carried : {A : Type 0} {r d : A} {R : Type 0} (P : A → Type 0) → r ≡ d → (R → P d) → (r ≡ d) × (R → P r)
 carried P e f = (e, λ x. subst P (sym e) (f x))
 
-by : {A : Type 0} {b t : Bool} (x y : A) → b ≡ t → cond b x y ≡ cond t x y
-by x y e = ap (λ (b : Bool). cond b x y) e
+-- the two ways of a test
+pub when-true : {A : Type 0} {b : Bool} {r x : A} (y : A) → r ≡ x → b ≡ true → r ≡ cond b x y
+when-true {r = r} {x = x} y e t = subst (λ (b : Bool). r ≡ cond b x y) (sym t) e
 
--- `upper` and `lower` of the pair c that a call gave, by the test of its low part
-pub upper-next : {c d : CDouble} {r : Float} → c ≡ d → r ≡ nextUp (c .hi) → lt plusZero (c .lo) ≡ true → r ≡ upper d
-unfolding upper
-upper-next {c} e f t = f ∙ sym (by (nextUp (c .hi)) (c .hi) t) ∙ ap upper e
-
-pub upper-stays : {c d : CDouble} → c ≡ d → lt plusZero (c .lo) ≡ false → c .hi ≡ upper d
-unfolding upper
-upper-stays {c} e t = sym (by (nextUp (c .hi)) (c .hi) t) ∙ ap upper e
-
-pub lower-next : {c d : CDouble} {r : Float} → c ≡ d → r ≡ nextDown (c .hi) → lt (c .lo) plusZero ≡ true → r ≡ lower d
-unfolding lower
-lower-next {c} e f t = f ∙ sym (by (nextDown (c .hi)) (c .hi) t) ∙ ap lower e
-
-pub lower-stays : {c d : CDouble} → c ≡ d → lt (c .lo) plusZero ≡ false → c .hi ≡ lower d
-unfolding lower
-lower-stays {c} e t = sym (by (nextDown (c .hi)) (c .hi) t) ∙ ap lower e
-
--- `rounded` by the side asked for
-pub rounded-is-upper : (c : CDouble) {up : Bool} {r : Float} → up ≡ true → r ≡ upper (normalized c) → r ≡ rounded c up
-unfolding rounded
-rounded-is-upper c u e = e ∙ sym (by (upper (normalized c)) (lower (normalized c)) u)
-
-pub rounded-is-lower : (c : CDouble) {up : Bool} {r : Float} → up ≡ false → r ≡ lower (normalized c) → r ≡ rounded c up
-unfolding rounded
-rounded-is-lower c u e = e ∙ sym (by (upper (normalized c)) (lower (normalized c)) u)
-
-pub rounded-stays : (c : CDouble) (up : Bool) {d : CDouble} → d ≡ normalized c → (up ≡ true → lt plusZero (d .lo) ≡ false) → (up ≡ false → lt (d .lo) plusZero ≡ false) → d .hi ≡ rounded c up
-rounded-stays c true e f g = rounded-is-upper c refl (upper-stays e (f refl))
-rounded-stays c false e f g = rounded-is-lower c refl (lower-stays e (g refl))
+pub when-false : {A : Type 0} {b : Bool} {r y : A} (x : A) → r ≡ y → b ≡ false → r ≡ cond b x y
+when-false {r = r} {y = y} x e t = subst (λ (b : Bool). r ≡ cond b x y) (sym t) e
 
 -- a test and its negation
 pub not-true : (b : Bool) → not b ≡ true → b ≡ false
@@ -54,10 +28,16 @@ not-true false e = refl
 pub differ : {A : Type 0} {b : Bool} → b ≡ true → b ≡ false → A
 differ t f = absurd (true≢false (sym t ∙ f))
 
--- `abs_up` by the sign of the value
+-- `rounded` where no test moves the high part of the normalized pair d
+pub rounded-stays : (c : CDouble) (up : Bool) {d : CDouble} → d ≡ normalized c → (up ≡ true → lt plusZero (d .lo) ≡ false) → (up ≡ false → lt (d .lo) plusZero ≡ false) → d .hi ≡ rounded c up
+unfolding rounded upper lower
+rounded-stays c true {d} e f g = when-false (nextUp (d .hi)) refl (f refl) ∙ ap upper e
+rounded-stays c false {d} e f g = when-false (nextDown (d .hi)) refl (g refl) ∙ ap lower e
+
+-- `abs_up` by the test of the value
 pub abs-up-is : (c : CDouble) {n : CDouble} {v r : Float} {b : Bool} → v ≡ value c → lt v plusZero ≡ b → n ≡ cond b (negated c) c → r ≡ rounded n true → r ≡ absUp c
 unfolding absUp
-abs-up-is c e t f g = g ∙ ap (λ (d : CDouble). rounded d true) (f ∙ sym (by (negated c) c t) ∙ ap (λ (x : Float). cond (lt x plusZero) (negated c) c) e)
+abs-up-is c e t f g = g ∙ ap (λ (d : CDouble). rounded d true) (f ∙ ap (λ (b : Bool). cond b (negated c) c) (sym t) ∙ ap (λ (x : Float). cond (lt x plusZero) (negated c) c) e)
 
 -- ---- `compensated_error`, from what its calls gave: longest and terms as doubles, and the scale
 pub compensated-is : (terms longest : ℕ) (m : Float) {l x t : Float} → l ≡ asF64 longest → x ≡ larger ((l ⊕ fin false 1 (pos 1)) ⊘ fin false 1 (pos 3)) (fin false 1 (pos 0)) → t ≡ asF64 terms

@@ -3,7 +3,7 @@
 use mathlib.Core.Path.{_≡_, refl, sym, ap, _∙_, subst}
 use mathlib.Core.Logic.{inl, inr}
 use mathlib.Core.Bool.{Bool, true, false, not, cond}
-use Prim.Native.Nat.{ℕ, _^_, _<_}
+use Prim.Native.Nat.{ℕ, _^_, _<_, zero-le}
 use native.Mathlib.Nat.{le-refl, mul-le-mul-right}
 use native.Mathlib.Omega.{arith}
 use lib.IntN.{ℤ, pos, negℤ, _+ℤ_, _*ℤ_, negℤ-+ℤ, *ℤ-comm}
@@ -16,7 +16,7 @@ use Rattle.exact.specs.Value.{magnitude, exact, exactAt}
 use Rattle.exact.specs.Integers.{_≼_, _≺_}
 use Rattle.exact.specs.Nearest.{toNearest}
 use Rattle.exact.proofs.Difference.{all, differences}
-use Rattle.exact.proofs.Order.{≼-or-≺, ≼-of-≺, ≺-not-≼, *-mono}
+use Rattle.exact.proofs.Order.{≼-or-≺, ≼-of-≺, ≺-not-≼, pos-≼, *-mono}
 use Rattle.exact.proofs.Values.{exact-neg, exactAt-neg, finite-neg, neg-neg}
 use Rattle.exact.proofs.Compare.{lt-to, lt-of, same-bool}
 use Rattle.exact.proofs.Nearest.{toNearest-mono, toNearest-neg, toNearest-same}
@@ -75,11 +75,8 @@ module _ (l : ℕ) (z : ℤ) (d : Float) (f : T (finite d)) (is : exact d ≡ to
       between : (a b c : ℤ) → a ≺ b → b ≼ c → a ≺ c
       between = all _ λ a a'. all _ λ b b'. all _ λ c c'. simp differences (λ h k. omega arith)
 
-      natural : (n : ℕ) → pos 0 ≼ pos n
-      natural n = simp differences (omega arith)
-
       scaled : (a b : ℤ) (n : ℕ) → a *ℤ pos n ≺ b *ℤ pos n → a ≺ b
-      scaled a b n h = elim (≼-or-≺ b a) [ inl k ↦ absurd (≺-not-≼ h (rw (*ℤ-comm b (pos n), *ℤ-comm a (pos n)) (*-mono (pos n) b a (natural n) k))) | inr k ↦ k ]
+      scaled a b n h = elim (≼-or-≺ b a) [ inl k ↦ absurd (≺-not-≼ h (rw (*ℤ-comm b (pos n), *ℤ-comm a (pos n)) (*-mono (pos n) b a (pos-≼ 0 n .1 zero-le) k))) | inr k ↦ k ]
 
 -- ---- pairs
 pub exact-zero : exact plusZero ≡ pos 0

@@ -12,7 +12,7 @@ use Rattle.exact.proofs.Naturals.{distance}
 use Rattle.exact.proofs.Difference.{dif, differences}
 use Rattle.exact.proofs.Signed.{natAbs-dif}
 use Rattle.cdouble.specs.Compensated.{_⊖_, _⊗_}
-use Rattle.cdouble.proofs.Steps.{top, HasExact, as-value, IsDouble, is-double, sub-kept, mul-kept}
+use Rattle.cdouble.proofs.Steps.{top, HasExact, as-value, IsDouble, is-double, double-as, sub-kept, mul-kept}
 
 -- a - b, or its negative
 abbrev pub offset : Bool → ℕ → ℕ → ℤ
@@ -59,7 +59,7 @@ module _ (u w : ℕ) (R : Representable 53 (distance u w)) (c : u ≤ top) (d : 
   pub sub-offset : (s : Bool) (x y : Float) (a b a' b' : ℕ) → HasExact (offset s a b) x → HasExact (offset s a' b') y → a + b' + w ≡ u + (b + a') → HasExact (offset s u w) (x ⊖ y)
   sub-offset s x y a b a' b' X Y e =
       let is = offset-sub s a b a' b' ∙ offset-same s (a + b') (b + a') u w e in
-      as-value is (sub-kept X Y (subst IsDouble (sym is) (offset-double s u w R c d)))
+      as-value is (sub-kept X Y (double-as (sym is) (offset-double s u w R c d)))
 
   pub mul-offset : (s t : Bool) (x y : Float) (a b a' b' : ℕ) → HasExact (offset s a b) x → HasExact (offset t a' b') y → a * a' + b * b' ≡ u * 2 ^ 1074 → a * b' + b * a' ≡ w * 2 ^ 1074 → HasExact (offset (unlike s t) u w) (x ⊗ y)
   mul-offset s t x y a b a' b' X Y e f =

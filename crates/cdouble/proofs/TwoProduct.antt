@@ -173,17 +173,20 @@ module _ (a b : Float) (fa : T (finite a)) (fb : T (finite b)) (ha : T (fits bin
 at-zero : (x : Float) → IsZero x → AtMost 995 x
 at-zero x z = record { is-finite = z .0; cap = le-trans (le-of-eq (z .1)) zero-le }
 
+zero-product : (a b : Float) → T (fits binary64 a) → T (fits binary64 b) → AtMost 995 a → AtMost 995 b → magnitude a * magnitude b ≡ 0
+    → Terms (magnitude a) (magnitude b) (nearestUnits 53 1074 (magnitude a * magnitude b)) → IsExact 1074 (exact a *ℤ exact b) (twoProduct a b)
+zero-product a b ha hb ra rb e K =
+    let fa = ra .is-finite in
+    let fb = rb .is-finite in
+    exact-of-terms a b fa fb ha hb (product-finite a b fa fb ha hb (subst (λ (n : ℕ). n < overflow binary64) (sym (rounded-zero (magnitude a * magnitude b) e)) (pow-pos 2098))) ra rb K
+
 pub two-product-exact : (a b : Float) → T (fits binary64 a) → T (fits binary64 b) → ProductRange a b → IsExact 1074 (exact a *ℤ exact b) (twoProduct a b)
 two-product-exact a b ha hb (inl (z, rb)) =
-    let fb = rb .is-finite in
-    exact-of-terms a b (z .0) fb ha hb
-    (product-finite a b (z .0) fb ha hb (subst (λ (n : ℕ). n < overflow binary64) (sym (rounded-zero (magnitude a * magnitude b) (ap (λ (n : ℕ). n * magnitude b) (z .1) ∙ zero-mul (magnitude b)))) (pow-pos 2098)))
-    (at-zero a z) rb (subst (λ (n : ℕ). Terms n (magnitude b) (nearestUnits 53 1074 (n * magnitude b))) (sym (z .1)) (terms-zero-l (magnitude b)))
+    zero-product a b ha hb (at-zero a z) rb (ap (λ (n : ℕ). n * magnitude b) (z .1) ∙ zero-mul (magnitude b))
+    (subst (λ (n : ℕ). Terms n (magnitude b) (nearestUnits 53 1074 (n * magnitude b))) (sym (z .1)) (terms-zero-l (magnitude b)))
 two-product-exact a b ha hb (inr (inl (ra, z))) =
-    let fa = ra .is-finite in
-    exact-of-terms a b fa (z .0) ha hb
-    (product-finite a b fa (z .0) ha hb (subst (λ (n : ℕ). n < overflow binary64) (sym (rounded-zero (magnitude a * magnitude b) (ap (λ (n : ℕ). magnitude a * n) (z .1) ∙ mul-zero (magnitude a)))) (pow-pos 2098)))
-    ra (at-zero b z) (subst (λ (n : ℕ). Terms (magnitude a) n (nearestUnits 53 1074 (magnitude a * n))) (sym (z .1)) (terms-zero-r (magnitude a)))
+    zero-product a b ha hb ra (at-zero b z) (ap (λ (n : ℕ). magnitude a * n) (z .1) ∙ mul-zero (magnitude a))
+    (subst (λ (n : ℕ). Terms (magnitude a) n (nearestUnits 53 1074 (magnitude a * n))) (sym (z .1)) (terms-zero-r (magnitude a)))
 two-product-exact a b ha hb (inr (inr R)) =
     let fa = R .first .is-finite in
     let fb = R .second .is-finite in

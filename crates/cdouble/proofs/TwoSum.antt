@@ -39,7 +39,7 @@ two-sum-exact a b ha hb R =
     let d = sub-kept v z (is-double (K .b-error)) in
     made a b (a ⊕ b) _ X (toNearest 0 (X -ℤ exact a)) x (add-kept c d (is-double (K .error))) refl
 
--- a pair whose high part is the rounded sum already is not changed, however large
+-- of a pair whose high part is the rounded sum already it is exact however large they are
 pub two-sum-again : (a b : Float) → T (finite a) → T (finite b) → T (fits binary64 a) → T (fits binary64 b) → exact a ≡ toNearest 0 (exact a +ℤ exact b) → IsExact 0 (exact a +ℤ exact b) (twoSum a b)
 unfolding twoSum
 two-sum-again a b fa fb ha hb e =

@@ -23,7 +23,7 @@ pub struct CDouble {
 }
 
 impl CDouble {
-    /// The factor of `split`, 2^27 + 1: a difference of products with it rounds a double's lower 27 digits away.
+    /// The factor of `split`, 2^27 + 1, which leaves its high half 26 digits of 53.
     pub const FACTOR: f64 = 134_217_729.0;
 
     /// The allowance for the round-off of compensated sums, per term and per unit of the terms' magnitude: 16 · 2^-104.
@@ -125,7 +125,7 @@ impl CDouble {
         }
     }
 
-    /// The nearest double.
+    /// The sum, rounded to nearest.
     pub fn value(self) -> f64
         ensures { λ r. ⌜ r ≡ value self ⌝ }
     {

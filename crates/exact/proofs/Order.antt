@@ -1,9 +1,9 @@
 -- The ordered ring of the integers. The one law that is not linear is that a product of two numbers not below 0 is not below 0;
 -- from it come the monotone products, and the largest value of a product over an interval. Assumes nothing.
 use mathlib.Core.Path.{_≡_}
-use mathlib.Core.Logic.{_⊎_, inl, inr, ⊎-elim}
+use mathlib.Core.Logic.{_⊎_, inl, inr, ⊎-elim, _↔_}
 use mathlib.Core.Bool.{Bool, true, false, not}
-use Prim.Native.Nat.{ℕ, _*_, _<_}
+use Prim.Native.Nat.{ℕ, _*_, _≤_, _<_, zero-le}
 use native.Mathlib.Nat.{le-of-mul-le-mul-left}
 use native.Mathlib.Omega.{arith}
 use lib.Dec.{T}
@@ -50,6 +50,9 @@ pub ≼-or-≺ : (a b : ℤ) → (a ≼ b) ⊎ (b ≺ a)
 pub ≼-total : (a b : ℤ) → (a ≼ b) ⊎ (b ≼ a)
 ≼-total a b = ⊎-elim inl (λ h. inr (≼-of-≺ h)) (≼-or-≺ a b)
 
+pub pos-≼ : (m n : ℕ) → (pos m ≼ pos n) ↔ (m ≤ n)
+pos-≼ m n = simp differences (λ h. omega arith, λ h. omega arith)
+
 -- ---- sums and negatives
 pub +-mono : (a b c d : ℤ) → a ≼ b → c ≼ d → a +ℤ c ≼ b +ℤ d
 +-mono = all _ λ a a'. all _ λ b b'. all _ λ c c'. all _ λ d d'. simp differences (λ h k. omega arith)
@@ -68,10 +71,7 @@ neg-≺ = all _ λ a a'. all _ λ b b'. simp differences (λ h. omega arith)
 
 -- ---- products
 pub *-nonneg : (x y : ℤ) → pos 0 ≼ x → pos 0 ≼ y → pos 0 ≼ x *ℤ y
-*-nonneg (pos a) (pos b) h k = go (a * b)
-  where
-    go : (n : ℕ) → pos 0 ≼ pos n
-    go n = simp differences (omega arith)
+*-nonneg (pos a) (pos b) h k = pos-≼ 0 (a * b) .1 zero-le
 *-nonneg (pos a) (negsuc b) h k = absurd (k .le)
 *-nonneg (negsuc a) y h k = absurd (h .le)
 

@@ -8,14 +8,14 @@ use lib.Pow.{pow-add, pow-pos, pow-mono, pow-lt, shl-lt}
 use Rattle.exact.specs.Representable.{Representable}
 use Rattle.exact.proofs.Naturals.{le-or-lt}
 
-pub representable-zero : (p : ℕ) → Representable p 0
-representable-zero p = record { exp = 0; dvd = subst (λ (n : ℕ). 2 ^ 0 ∣ n) (zero-mul (2 ^ 0)) (dvd-mul-left (2 ^ 0) 0); fit = pow-pos (p + 0) }
-
 pub representable-pow : (p : ℕ) → 0 < p → (j : ℕ) → Representable p (2 ^ j)
 representable-pow p P j = record { exp = j; dvd = dvd-refl (2 ^ j); fit = pow-lt (more p j P) }
   where
     more : (p j : ℕ) → 0 < p → j < p + j
     more p j h = omega arith
+
+pub representable-zero : (p : ℕ) → Representable p 0
+representable-zero p = record { exp = 0; dvd = subst (λ (n : ℕ). 2 ^ 0 ∣ n) (zero-mul (2 ^ 0)) (dvd-mul-left (2 ^ 0) 0); fit = pow-pos (p + 0) }
 
 -- the bound 2 ^ (p + t) itself is a power of two
 pub representable-of : (p : ℕ) → 0 < p → (n t : ℕ) → 2 ^ t ∣ n → n ≤ 2 ^ (p + t) → Representable p n

@@ -1,16 +1,16 @@
 -- `rounded` meets its contract. Assumes nothing.
 use borrow.Author.Needs.{needs}
-use mathlib.Core.Path.{_≡_, ap}
+use mathlib.Core.Path.{_≡_, ap, _∙_}
 use mathlib.Core.Logic.{inl, inr}
 use mathlib.Core.Bool.{not}
 use lib.IntN.{_+ℤ_}
 use lib.Ieee.{Float, ofBits}
 use Rattle.exact.specs.Value.{exact}
 use Rattle.doubles.proofs.Tests.{fit}
-use Rattle.cdouble.specs.Compensated.{normalized, rounded}
+use Rattle.cdouble.specs.Compensated.{lower, normalized, rounded, upper}
 use Rattle.cdouble.specs.Exactness.{SumRange, IsToward}
 use Rattle.cdouble.proofs.Consequences.{normalized-exact, rounded-toward}
-use Rattle.cdouble.proofs.Contracts.{carried, differ, lower-next, not-true, rounded-is-lower, rounded-is-upper, rounded-stays, upper-next}
+use Rattle.cdouble.proofs.Contracts.{carried, differ, not-true, rounded-stays, when-false, when-true}
 use Rattle.cdouble.proofs.CDouble.rounded.Statement.{statement}
 use Rattle.cdouble.proofs.CDouble.rounded.Tie as tie
 
@@ -31,20 +31,20 @@ toward s e =
     carried (IsToward (s .args .up) 0 z) e (λ R. rounded-toward d (s .args .up) z (normalized-exact d (fit (d .hi) (s .good .0 .1 .1 .0 .1)) (fit (d .lo) (s .good .0 .1 .1 .1 .0 .1)) R))
 
 returns : tie.Need-returns
-unfolding normalized ofBits
+unfolding rounded upper lower normalized ofBits
 returns c =
     let s = c .before .before .before .before in
     let d = s .args .self in
-    toward s
-    (rounded-is-upper d (c .before .before .if1 .taken) (upper-next (c .before .before .before .two-sum .ensures .0) (c .next-up .ensures) (c .before .if2 .taken)))
+    let t = c .before .before .before .two-sum in
+    toward s (when-true (lower (normalized d)) (when-true (t .result .hi) (c .next-up .ensures) (c .before .if2 .taken) ∙ ap upper (t .ensures .0)) (c .before .before .if1 .taken))
 
 returns-2 : tie.Need-returns-2
-unfolding normalized ofBits
+unfolding rounded upper lower normalized ofBits
 returns-2 c =
     let s = c .before .before .before .before .before in
     let d = s .args .self in
-    toward s
-    (rounded-is-lower d (not-true (s .args .up) (c .before .before .if3 .taken)) (lower-next (c .before .before .before .before .two-sum .ensures .0) (c .next-down .ensures) (c .before .if4 .taken)))
+    let t = c .before .before .before .before .two-sum in
+    toward s (when-false (upper (normalized d)) (when-true (t .result .hi) (c .next-down .ensures) (c .before .if4 .taken) ∙ ap lower (t .ensures .0)) (not-true (s .args .up) (c .before .before .if3 .taken)))
 
 returns-3 : tie.Need-returns-3
 unfolding normalized ofBits
