@@ -1,0 +1,6 @@
+pub mod All
+pub mod Tallies
+pub mod Marks
+pub mod Tests
+pub mod Ask
+pub mod Accepted

@@ -1,0 +1,13 @@
+-- `sizes_fine` meets its contract. Assumes nothing.
+use borrow.Author.Needs.{needs}
+use mathlib.Core.Path.{refl}
+use Rattle.sheet.specs.Questions.{sizesFine}
+use Rattle.sheet.proofs.answers.sizes_fine.Statement.{statement}
+use Rattle.sheet.proofs.answers.sizes_fine.Tie as tie
+
+returns : tie.Need-returns
+unfolding sizesFine
+returns c = refl
+
+pub sizes-fine-spec : {M : Type 1} → statement M
+sizes-fine-spec = tie.close (tie.spec returns)

@@ -1,0 +1,49 @@
+-- The first "no" of document 01's questions, and the sheets that no question refuses. Assumes nothing.
+use mathlib.Core.Path.{_≡_}
+use mathlib.Core.Bool.{Bool, true, false}
+use Prim.Native.Nat.{ℕ}
+use lib.Dec.{ltb}
+use Rattle.sheet.specs.declared.answers.Refusal.{Refusal}
+use Rattle.sheet.specs.declared.answers.Refusal.the-variants.{None, Sizes, Lengths, RowStarts, Columns, Entries, Bounds, Tolerances, Basis, Values, Widened, LeavingRow}
+use Rattle.sheet.specs.Sheet.{Sheet, variables}
+use Rattle.sheet.specs.Questions.{sizesFine, lengthsFine, startsFine, columnsFine, allFinite, entriesFine, boundsFine, tolerancesFine, basisFine, widenedFine}
+
+-- 01's number of each answer, 0 where no question refuses
+abbrev pub numberOf : Refusal → ℕ
+numberOf None = 0
+numberOf Sizes = 2
+numberOf Lengths = 3
+numberOf RowStarts = 4
+numberOf Columns = 5
+numberOf Entries = 6
+numberOf Bounds = 7
+numberOf Tolerances = 8
+numberOf Basis = 9
+numberOf Values = 10
+numberOf Widened = 11
+numberOf LeavingRow = 12
+
+-- the number n where a question's answer is no, else what the later questions say
+unfoldable pub ask : Bool → ℕ → ℕ → ℕ
+ask true n later = later
+ask false n later = n
+
+-- "Over the whole input, in this order; the first "no" gives its number"
+unfoldable pub firstNo : Sheet → ℕ
+firstNo s =
+    ask (sizesFine (s .rows) (s .structurals) (s .entryCount)) 2
+    (ask (lengthsFine s) 3
+    (ask (startsFine (s .rows) (s .entryCount) (s .starts)) 4
+    (ask (columnsFine (s .rows) (s .structurals) (s .starts) (s .columns)) 5
+    (ask (entriesFine (s .rows) (s .starts) (s .entries) (s .rightSides)) 6
+    (ask (boundsFine (s .mins) (s .maxs)) 7
+    (ask (tolerancesFine (s .feasibility) (s .scales) (s .lowTolerances) (s .highTolerances)) 8
+    (ask (basisFine (s .rows) (s .basic) (s .places)) 9
+    (ask (allFinite (s .values)) 10
+    (ask (widenedFine (variables s) (s .widenedVariables) (s .widenedUps)) 11
+    (ask (ltb (s .leavingRow) (s .rows)) 12
+    0))))))))))
+
+-- "An accepted sheet … is one that no question refuses"
+pub Accepted : Sheet → Type 0
+Accepted s = firstNo s ≡ 0

@@ -1,0 +1,96 @@
+-- The sheet: one field for each number and each lent slice. Document 01, "Questions put to the input" and "The sheet". Assumes nothing.
+use mathlib.Core.Bool.{Bool, not}
+use mathlib.Core.List.{List}
+use Prim.Native.Nat.{ℕ, _+_, _-_}
+use lib.Dec.{eqb}
+use lib.ListN.{getD, take, drop}
+use lib.Ieee.{Float}
+use Rattle.sheet.specs.declared.answers.Sizes.{Sizes}
+use Rattle.sheet.specs.declared.answers.Outputs.{Outputs}
+
+pub record Sheet : Type 0 where
+  -- how many rows, structural variables and entries there are
+  pub rows : ℕ
+  pub structurals : ℕ
+  pub entryCount : ℕ
+  -- where each row's entries start, and where the last row's end
+  pub starts : List ℕ
+  -- the rows' columns and entries in stored order, row after row
+  pub columns : List ℕ
+  pub entries : List Float
+  -- of each row
+  pub rightSides : List Float
+  pub scales : List Float
+  pub feasibility : Float
+  -- of each structural variable, whether it is integer: a flag
+  pub integer : List ℕ
+  -- of each variable, the slacks last: bounds, and tolerances toward each
+  pub mins : List Float
+  pub maxs : List Float
+  pub lowTolerances : List Float
+  pub highTolerances : List Float
+  -- of each variable: whether it is basic, a flag; its place then; its value
+  pub basic : List ℕ
+  pub places : List ℕ
+  pub values : List Float
+  -- the widened list: variables and sides, a flag that is set for up
+  pub widenedVariables : List ℕ
+  pub widenedUps : List ℕ
+  -- whether the multipliers are checked, a flag; of each row: rho, and its second correction
+  pub checked : ℕ
+  pub rhoHi : List Float
+  pub rhoLo : List Float
+  pub second : List Float
+  -- the leaving row, and whether it leaves up, a flag
+  pub leavingRow : ℕ
+  pub leavingUp : ℕ
+  -- how many places each lent output has
+  pub outputs : Outputs
+
+-- the one place where a sheet is made from what is lent
+abbrev pub sheet : Sizes → Float → ℕ → ℕ → ℕ → Outputs → List ℕ → List ℕ → List Float → List Float → List Float → List ℕ → List Float → List Float → List Float → List Float → List ℕ → List ℕ → List Float → List ℕ → List ℕ → List Float → List Float → List Float → Sheet
+sheet sizes feasibility checked leavingRow leavingUp outputs starts columns entries rightSides scales integer mins maxs lowTolerances highTolerances basic places values widenedVariables widenedUps rhoHi rhoLo second =
+    record {
+      rows = sizes .rows;
+      structurals = sizes .structurals;
+      entryCount = sizes .entries;
+      starts = starts;
+      columns = columns;
+      entries = entries;
+      rightSides = rightSides;
+      scales = scales;
+      feasibility = feasibility;
+      integer = integer;
+      mins = mins;
+      maxs = maxs;
+      lowTolerances = lowTolerances;
+      highTolerances = highTolerances;
+      basic = basic;
+      places = places;
+      values = values;
+      widenedVariables = widenedVariables;
+      widenedUps = widenedUps;
+      checked = checked;
+      rhoHi = rhoHi;
+      rhoLo = rhoLo;
+      second = second;
+      leavingRow = leavingRow;
+      leavingUp = leavingUp;
+      outputs = outputs;
+    }
+
+-- "Variables here include the slacks"
+abbrev pub variables : Sheet → ℕ
+variables s = s .structurals + s .rows
+
+-- "its own slack (structural count + row)"
+abbrev pub slackOf : ℕ → ℕ → ℕ
+slackOf structurals row = structurals + row
+
+-- "a byte flag is set unless 0"
+abbrev pub isSet : ℕ → Bool
+isSet flag = not (eqb flag 0)
+
+-- "the part of the entries from its start to its end", of a list that goes row after row
+unfoldable pub part : {A : Type 0} → List ℕ → ℕ → List A → List A
+part starts row xs = take (getD starts (row + 1) 0 - getD starts row 0) (drop (getD starts row 0) xs)

@@ -1,0 +1,237 @@
+//! What is asked of the sheet, in document 01's order, and the answer.
+ghost use mathlib.Core.Path.{_≡_};
+ghost use Prim.Native.Nat.{_≤_};
+ghost use Rattle.sheet.specs.Sheet.{sheet};
+ghost use Rattle.sheet.specs.Limits.{mostRows};
+ghost use Rattle.sheet.specs.Questions.{outputsFit, rowsFit, sizesFine, variablesFit};
+ghost use Rattle.sheet.specs.Answers.{firstNo, numberOf};
+use crate::basis::basis_fine;
+use crate::lists::all_finite;
+use crate::lists::bounds_fine;
+use crate::lists::tolerances_fine;
+use crate::rows::columns_fine;
+use crate::rows::entries_fine;
+use crate::rows::starts_fine;
+use crate::widened::widened_fine;
+
+/// The limits of the second question.
+pub const MOST_ROWS: usize = 128;
+
+pub const MOST_STRUCTURALS: usize = 256;
+
+pub const MOST_ENTRIES: usize = 4096;
+
+/// How many rows, structural variables and entries there are.
+pub struct Sizes {
+    pub rows: usize,
+    pub structurals: usize,
+    pub entries: usize,
+}
+
+/// How many places each lent output has.
+pub struct Outputs {
+    pub high: usize,
+    pub low: usize,
+    pub magnitudes: usize,
+    pub terms: usize,
+    pub errors: usize,
+}
+
+/// Which question refuses the sheet.
+pub enum Refusal {
+    None,
+    Sizes,
+    Lengths,
+    RowStarts,
+    Columns,
+    Entries,
+    Bounds,
+    Tolerances,
+    Basis,
+    Values,
+    Widened,
+    LeavingRow,
+}
+
+/// Document 01's number of a refusal.
+pub fn number_of(refusal: Refusal) -> u32
+    ensures { λ r. ⌜ r ≡ numberOf refusal ⌝ }
+{
+    match refusal {
+        Refusal::None => 0,
+        Refusal::Sizes => 2,
+        Refusal::Lengths => 3,
+        Refusal::RowStarts => 4,
+        Refusal::Columns => 5,
+        Refusal::Entries => 6,
+        Refusal::Bounds => 7,
+        Refusal::Tolerances => 8,
+        Refusal::Basis => 9,
+        Refusal::Values => 10,
+        Refusal::Widened => 11,
+        Refusal::LeavingRow => 12,
+    }
+}
+
+/// The second question.
+fn sizes_fine(sizes: Sizes) -> bool
+    ensures { λ r. ⌜ r ≡ sizesFine (sizes .rows) (sizes .structurals) (sizes .entries) ⌝ }
+{
+    (1 <= sizes.rows)
+        & (sizes.rows <= MOST_ROWS)
+        & (sizes.structurals <= MOST_STRUCTURALS)
+        & (sizes.entries <= MOST_ENTRIES)
+}
+
+/// The third question, of the slices that go by rows and entries.
+fn rows_fit(
+    rows: usize,
+    entry_count: usize,
+    starts: &[usize],
+    columns: &[usize],
+    entries: &[f64],
+    right_sides: &[f64],
+    scales: &[f64],
+    rho_hi: &[f64],
+    rho_lo: &[f64],
+    second: &[f64],
+) -> bool
+    requires { ⌜ rows ≤ mostRows ⌝ }
+    ensures { λ r. ⌜ r ≡ rowsFit rows «entry_count» (now (starts .entry)) (now (columns .entry)) (now (entries .entry)) (now («right_sides» .entry)) (now (scales .entry)) (now («rho_hi» .entry)) (now («rho_lo» .entry)) (now (second .entry)) ⌝ }
+{
+    (starts.len() == rows + 1)
+        & (columns.len() == entry_count)
+        & (entries.len() == entry_count)
+        & (right_sides.len() == rows)
+        & (scales.len() == rows)
+        & (rho_hi.len() == rows)
+        & (rho_lo.len() == rows)
+        & (second.len() == rows)
+}
+
+/// The third question, of the slices that go by variables.
+fn variables_fit(
+    count: usize,
+    mins: &[f64],
+    maxs: &[f64],
+    low_tolerances: &[f64],
+    high_tolerances: &[f64],
+    basic: &[u8],
+    places: &[usize],
+    values: &[f64],
+) -> bool
+    ensures { λ r. ⌜ r ≡ variablesFit count (now (mins .entry)) (now (maxs .entry)) (now («low_tolerances» .entry)) (now («high_tolerances» .entry)) (now (basic .entry)) (now (places .entry)) (now (values .entry)) ⌝ }
+{
+    (mins.len() == count)
+        & (maxs.len() == count)
+        & (low_tolerances.len() == count)
+        & (high_tolerances.len() == count)
+        & (basic.len() == count)
+        & (places.len() == count)
+        & (values.len() == count)
+}
+
+/// The third question, of the outputs.
+fn outputs_fit(count: usize, outputs: Outputs) -> bool
+    ensures { λ r. ⌜ r ≡ outputsFit count outputs ⌝ }
+{
+    (count <= outputs.high)
+        & (count <= outputs.low)
+        & (count <= outputs.magnitudes)
+        & (count <= outputs.terms)
+        & (count <= outputs.errors)
+}
+
+/// The first question, from the second on, whose answer is no.
+pub fn first_no(
+    sizes: Sizes,
+    feasibility: f64,
+    checked: u8,
+    leaving_row: usize,
+    leaving_up: u8,
+    outputs: Outputs,
+    starts: &[usize],
+    columns: &[usize],
+    entries: &[f64],
+    right_sides: &[f64],
+    scales: &[f64],
+    integer: &[u8],
+    mins: &[f64],
+    maxs: &[f64],
+    low_tolerances: &[f64],
+    high_tolerances: &[f64],
+    basic: &[u8],
+    places: &[usize],
+    values: &[f64],
+    widened_vars: &[usize],
+    widened_ups: &[u8],
+    rho_hi: &[f64],
+    rho_lo: &[f64],
+    second: &[f64],
+) -> Refusal
+    ensures { λ r. ⌜ numberOf r ≡ firstNo (sheet sizes feasibility checked «leaving_row» «leaving_up» outputs (now (starts .entry)) (now (columns .entry)) (now (entries .entry)) (now («right_sides» .entry)) (now (scales .entry)) (now (integer .entry)) (now (mins .entry)) (now (maxs .entry)) (now («low_tolerances» .entry)) (now («high_tolerances» .entry)) (now (basic .entry)) (now (places .entry)) (now (values .entry)) (now («widened_vars» .entry)) (now («widened_ups» .entry)) (now («rho_hi» .entry)) (now («rho_lo» .entry)) (now (second .entry))) ⌝ }
+{
+    let rows = sizes.rows;
+    let structurals = sizes.structurals;
+    let entry_count = sizes.entries;
+    if !sizes_fine(sizes) {
+        return Refusal::Sizes;
+    }
+    let count = structurals + rows;
+    let fit = rows_fit(
+        rows,
+        entry_count,
+        starts,
+        columns,
+        entries,
+        right_sides,
+        scales,
+        rho_hi,
+        rho_lo,
+        second,
+    )
+        & variables_fit(
+            count,
+            mins,
+            maxs,
+            low_tolerances,
+            high_tolerances,
+            basic,
+            places,
+            values,
+        )
+        & (integer.len() == structurals)
+        & (widened_ups.len() == widened_vars.len())
+        & outputs_fit(count, outputs);
+    if !fit {
+        return Refusal::Lengths;
+    }
+    if !starts_fine(rows, entry_count, starts) {
+        return Refusal::RowStarts;
+    }
+    if !columns_fine(rows, structurals, starts, columns) {
+        return Refusal::Columns;
+    }
+    if !entries_fine(rows, starts, entries, right_sides) {
+        return Refusal::Entries;
+    }
+    if !bounds_fine(mins, maxs) {
+        return Refusal::Bounds;
+    }
+    if !tolerances_fine(feasibility, scales, low_tolerances, high_tolerances) {
+        return Refusal::Tolerances;
+    }
+    if !basis_fine(rows, basic, places) {
+        return Refusal::Basis;
+    }
+    if !all_finite(values) {
+        return Refusal::Values;
+    }
+    if !widened_fine(count, widened_vars, widened_ups) {
+        return Refusal::Widened;
+    }
+    if !(leaving_row < rows) {
+        return Refusal::LeavingRow;
+    }
+    Refusal::None
+}

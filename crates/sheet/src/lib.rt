@@ -1,0 +1,12 @@
+//! The sheet that the counter lends: its sizes, and the questions put to it before anything is weighed.
+mod answers;
+mod basis;
+mod lists;
+mod rows;
+mod widened;
+
+pub use answers::Outputs;
+pub use answers::Refusal;
+pub use answers::Sizes;
+pub use answers::first_no;
+pub use answers::number_of;
