@@ -17,3 +17,4 @@ pub mod Steps
 pub mod Bounding
 pub mod Choice
 pub mod Ends
+pub mod Clear

@@ -10,3 +10,5 @@ pub mod Compare
 pub mod Nearest
 pub mod Digits
 pub mod Operations
+pub mod Between
+pub mod Signs

@@ -6,12 +6,13 @@ use lib.IntN.{pos, negsuc}
 use lib.Ieee.{Float, fin, binary64, ofBits}
 use Rattle.doubles.specs.Directed.{productUp, productDown}
 use Rattle.cdouble.specs.Compensated.{twoSum, twoProduct, addUp, mulUp, compensatedError}
+use Rattle.tolerances.specs.BandEdge.{bandEdge}
 
 pub record Example : Type 0 where
   pub given : Float
   pub bits : ℕ
 
--- 1, 2 and 4, 2 ^ -53 and -(2 ^ -54), 1 + 2 ^ -52, 2 ^ -600, and the largest double
+-- 1, 2 and 4, 2 ^ -53, 1.5 times that, and -(2 ^ -54), 1 + 2 ^ -52, 2 ^ -600, and the largest double
 abbrev one : Float
 one = fin false 1 (pos 0)
 
@@ -23,6 +24,9 @@ four = fin false 1 (pos 2)
 
 abbrev halfUlp : Float
 halfUlp = fin false 1 (negsuc 52)
+
+abbrev moreThanHalfUlp : Float
+moreThanHalfUlp = fin false 3 (negsuc 53)
 
 abbrev minusQuarterUlp : Float
 minusQuarterUlp = fin true 1 (negsuc 53)
@@ -54,6 +58,9 @@ starred =
     -- "MAX times 2: up +infinity, down MAX"
     ∷ record { given = productUp MAX two; bits = 0x7FF0_0000_0000_0000 }
     ∷ record { given = productDown MAX two; bits = 0x7FEF_FFFF_FFFF_FFFF }
+    -- "band_edge(1, 1.5 times 2^-53, up) = 1; (MAX, MAX, up) = MAX"
+    ∷ record { given = bandEdge one moreThanHalfUlp true; bits = 0x3FF0_0000_0000_0000 }
+    ∷ record { given = bandEdge MAX MAX true; bits = 0x7FEF_FFFF_FFFF_FFFF }
     -- "compensated_error(5, 2, 4) = 39F8000000000000"
     ∷ record { given = compensatedError 5 2 four; bits = 0x39F8_0000_0000_0000 }
     ∷ []

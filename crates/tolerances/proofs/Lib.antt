@@ -1,0 +1,3 @@
+pub mod BandEdge
+pub mod Parts
+pub mod Room

@@ -1,0 +1,4 @@
+pub mod Model
+pub mod Activity
+pub mod Edges
+pub mod Reads

@@ -1,0 +1,168 @@
+//! The variables: the leaving one, those that stay on their bounds, and the edges.
+ghost use mathlib.Core.Path.{_≡_};
+ghost use mathlib.Core.Bool.{Bool};
+ghost use Prim.Native.Nat.{_≤_, _<_};
+ghost use lib.ListN.{length};
+ghost use Rattle.edges.specs.Model.{model};
+ghost use Rattle.edges.specs.Edges.{edge, holderFrom, holdsOnBounds, isInteger, isWidened, wideningRoom};
+ghost use Rattle.edges.specs.Reads.{Readable};
+use crate::activity::slack_room;
+use doubles::is_finite;
+use tolerances::BoundTols;
+use tolerances::band_edge;
+
+/// Whether the widened list holds the variable `v` on this side.
+pub fn is_widened(vars: &[usize], ups: &[u8], v: usize, up: bool) -> bool
+    requires { ⌜ length (now ups) ≡ length (now vars) ⌝ }
+    ensures { λ r. ⌜ r ≡ isWidened (now (vars .entry)) (now (ups .entry)) v up ⌝ }
+{
+    let mut k = 0;
+    while k < vars.len() {
+        if (vars[k] == v) & ((ups[k] != 0) == up) {
+            return true;
+        }
+        k += 1;
+    }
+    false
+}
+
+/// Whether `v` is an integer structural variable.
+pub fn is_integer(structurals: usize, integer: &[u8], v: usize) -> bool
+    requires { ⌜ structurals ≤ length (now integer) ⌝ }
+    ensures { λ r. ⌜ r ≡ isInteger structurals (now (integer .entry)) v ⌝ }
+{
+    if v < structurals { integer[v] != 0 } else { false }
+}
+
+/// Whether `v` is kept on its bounds: an integer variable, or a structural one that its bounds fix.
+pub fn holds_on_bounds(structurals: usize, integer: &[u8], mins: &[f64], maxs: &[f64], v: usize) -> bool
+    requires { ⌜ (structurals ≤ length (now integer)) × (structurals ≤ length (now mins)) × (structurals ≤ length (now maxs)) ⌝ }
+    ensures { λ r. ⌜ r ≡ holdsOnBounds structurals (now (integer .entry)) (now (mins .entry)) (now (maxs .entry)) v ⌝ }
+{
+    if is_integer(structurals, integer, v) {
+        return true;
+    }
+    if v < structurals { mins[v] == maxs[v] } else { false }
+}
+
+/// The variable whose basis place has the leaving row's number; the variable count where there is none.
+pub fn leaving_variable(basic: &[u8], places: &[usize], leaving_row: usize) -> usize
+    requires { ⌜ length (now places) ≡ length (now basic) ⌝ }
+    ensures { λ r. ⌜ r ≡ holderFrom (now (basic .entry)) (now (places .entry)) «leaving_row» 0 (length (now (basic .entry))) ⌝ }
+{
+    let mut v = 0;
+    while v < basic.len() {
+        if (basic[v] != 0) & (places[v] == leaving_row) {
+            return v;
+        }
+        v += 1;
+    }
+    v
+}
+
+/// How far the bound of `v` on this side may move out where `v` is not leaving.
+pub fn widening_room(
+    structurals: usize,
+    feasibility: f64,
+    starts: &[usize],
+    columns: &[usize],
+    entries: &[f64],
+    right_sides: &[f64],
+    scales: &[f64],
+    integer: &[u8],
+    mins: &[f64],
+    maxs: &[f64],
+    low_tolerances: &[f64],
+    high_tolerances: &[f64],
+    values: &[f64],
+    widened_vars: &[usize],
+    widened_ups: &[u8],
+    v: usize,
+    up: bool,
+) -> f64
+    requires { ⌜ Readable (model structurals feasibility (now starts) (now columns) (now entries) (now «right_sides») (now scales) (now integer) (now mins) (now maxs) (now «low_tolerances») (now «high_tolerances») (now values) (now «widened_vars») (now «widened_ups»)) v ⌝ }
+    ensures { λ r. ⌜ r ≡ wideningRoom (model structurals feasibility (now (starts .entry)) (now (columns .entry)) (now (entries .entry)) (now («right_sides» .entry)) (now (scales .entry)) (now (integer .entry)) (now (mins .entry)) (now (maxs .entry)) (now («low_tolerances» .entry)) (now («high_tolerances» .entry)) (now (values .entry)) (now («widened_vars» .entry)) (now («widened_ups» .entry))) v up ⌝ }
+{
+    if is_widened(widened_vars, widened_ups, v, up) {
+        return 0.0;
+    }
+    if v < structurals {
+        return BoundTols {
+            lo: low_tolerances[v],
+            hi: high_tolerances[v],
+        }
+        .toward(up);
+    }
+    let r = v - structurals;
+    let start = starts[r];
+    let end = starts[r + 1];
+    slack_room(
+        structurals,
+        feasibility,
+        right_sides[r],
+        scales[r],
+        &columns[start..end],
+        &entries[start..end],
+        values,
+    )
+}
+
+/// The edge of `v` on this side.
+pub fn edge(
+    structurals: usize,
+    feasibility: f64,
+    starts: &[usize],
+    columns: &[usize],
+    entries: &[f64],
+    right_sides: &[f64],
+    scales: &[f64],
+    integer: &[u8],
+    mins: &[f64],
+    maxs: &[f64],
+    low_tolerances: &[f64],
+    high_tolerances: &[f64],
+    values: &[f64],
+    widened_vars: &[usize],
+    widened_ups: &[u8],
+    leaving: usize,
+    v: usize,
+    up: bool,
+) -> f64
+    requires { ⌜ Readable (model structurals feasibility (now starts) (now columns) (now entries) (now «right_sides») (now scales) (now integer) (now mins) (now maxs) (now «low_tolerances») (now «high_tolerances») (now values) (now «widened_vars») (now «widened_ups»)) v ⌝ }
+    ensures { λ r. ⌜ r ≡ edge (model structurals feasibility (now (starts .entry)) (now (columns .entry)) (now (entries .entry)) (now («right_sides» .entry)) (now (scales .entry)) (now (integer .entry)) (now (mins .entry)) (now (maxs .entry)) (now («low_tolerances» .entry)) (now («high_tolerances» .entry)) (now (values .entry)) (now («widened_vars» .entry)) (now («widened_ups» .entry))) leaving v up ⌝ }
+{
+    let bound = if up { maxs[v] } else { mins[v] };
+    if !is_finite(bound) {
+        return bound;
+    }
+    if v == leaving {
+        let tols = BoundTols {
+            lo: low_tolerances[v],
+            hi: high_tolerances[v],
+        };
+        return band_edge(bound, tols.toward(up), up);
+    }
+    if holds_on_bounds(structurals, integer, mins, maxs, v) {
+        return bound;
+    }
+    let room = widening_room(
+        structurals,
+        feasibility,
+        starts,
+        columns,
+        entries,
+        right_sides,
+        scales,
+        integer,
+        mins,
+        maxs,
+        low_tolerances,
+        high_tolerances,
+        values,
+        widened_vars,
+        widened_ups,
+        v,
+        up,
+    );
+    band_edge(bound, room, up)
+}
