@@ -124,3 +124,70 @@ module _ (rows n : ℕ) (starts : List ℕ) (e : startsFine rows n starts ≡ tr
 
   pub rows-lie : length starts ≡ rows + 1 → RowsLie rows n starts
   rows-lie long = record { long = long; rises = rises; inside = λ r less. before-end (rows - (r + 1)) (r + 1) (omega arith) }
+
+-- ---- all questions
+pub record AllYes (s : Sheet) : Type 0 where
+  pub sizes-fine : sizesFine (s .rows) (s .structurals) (s .entryCount) ≡ true
+  pub lengths-fine : lengthsFine s ≡ true
+  pub starts-fine : startsFine (s .rows) (s .entryCount) (s .starts) ≡ true
+  pub columns-fine : columnsFine (s .rows) (s .structurals) (s .starts) (s .columns) ≡ true
+  pub entries-fine : entriesFine (s .rows) (s .starts) (s .entries) (s .rightSides) ≡ true
+  pub bounds-fine : boundsFine (s .mins) (s .maxs) ≡ true
+  pub tolerances-fine : tolerancesFine (s .feasibility) (s .scales) (s .lowTolerances) (s .highTolerances) ≡ true
+  pub basis-fine : basisFine (s .rows) (s .basic) (s .places) ≡ true
+  pub values-fine : allFinite (s .values) ≡ true
+  pub widened-fine : widenedFine (variables s) (s .widenedVariables) (s .widenedUps) ≡ true
+  pub leaving-fine : ltb (s .leavingRow) (s .rows) ≡ true
+
+-- no question but the first "no" gives a number
+asked : (b : Bool) (n later : ℕ) → ask b (suc n) later ≡ 0 → (b ≡ true) × (later ≡ 0)
+unfolding ask
+asked true n later e = (refl, e)
+asked false n later e = absurd (omega (arith, e))
+
+pub all-yes : (s : Sheet) → Accepted s → AllYes s
+unfolding firstNo
+all-yes s e =
+    let a2 = asked (sizesFine (s .rows) (s .structurals) (s .entryCount)) 1 _ (e) in
+    let a3 = asked (lengthsFine s) 2 _ (a2 .1) in
+    let a4 = asked (startsFine (s .rows) (s .entryCount) (s .starts)) 3 _ (a3 .1) in
+    let a5 = asked (columnsFine (s .rows) (s .structurals) (s .starts) (s .columns)) 4 _ (a4 .1) in
+    let a6 = asked (entriesFine (s .rows) (s .starts) (s .entries) (s .rightSides)) 5 _ (a5 .1) in
+    let a7 = asked (boundsFine (s .mins) (s .maxs)) 6 _ (a6 .1) in
+    let a8 = asked (tolerancesFine (s .feasibility) (s .scales) (s .lowTolerances) (s .highTolerances)) 7 _ (a7 .1) in
+    let a9 = asked (basisFine (s .rows) (s .basic) (s .places)) 8 _ (a8 .1) in
+    let a10 = asked (allFinite (s .values)) 9 _ (a9 .1) in
+    let a11 = asked (widenedFine (variables s) (s .widenedVariables) (s .widenedUps)) 10 _ (a10 .1) in
+    let a12 = asked (ltb (s .leavingRow) (s .rows)) 11 _ (a11 .1) in
+    record {
+      sizes-fine = a2 .0;
+      lengths-fine = a3 .0;
+      starts-fine = a4 .0;
+      columns-fine = a5 .0;
+      entries-fine = a6 .0;
+      bounds-fine = a7 .0;
+      tolerances-fine = a8 .0;
+      basis-fine = a9 .0;
+      values-fine = a10 .0;
+      widened-fine = a11 .0;
+      leaving-fine = a12 .0;
+    }
+
+-- and the other way: a sheet to which every answer is yes is accepted
+pub accepted : (s : Sheet) → AllYes s → Accepted s
+unfolding firstNo ask
+accepted s y =
+    rw (
+      y .sizes-fine,
+      y .lengths-fine,
+      y .starts-fine,
+      y .columns-fine,
+      y .entries-fine,
+      y .bounds-fine,
+      y .tolerances-fine,
+      y .basis-fine,
+      y .values-fine,
+      y .widened-fine,
+      y .leaving-fine,
+    )
+    refl

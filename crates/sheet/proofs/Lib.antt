@@ -4,3 +4,4 @@ pub mod Marks
 pub mod Tests
 pub mod Ask
 pub mod Accepted
+pub mod Numbers

@@ -45,5 +45,5 @@ firstNo s =
     0))))))))))
 
 -- "An accepted sheet … is one that no question refuses"
-pub Accepted : Sheet → Type 0
+abbrev pub Accepted : Sheet → Type 0
 Accepted s = firstNo s ≡ 0

@@ -2,9 +2,9 @@
 use mathlib.Core.Bool.{Bool, not}
 use mathlib.Core.List.{List}
 use Prim.Native.Nat.{ℕ, _+_, _-_}
-use lib.Dec.{eqb}
+use lib.Dec.{T, eqb}
 use lib.ListN.{getD, take, drop}
-use lib.Ieee.{Float}
+use lib.Ieee.{Float, nan, binary64, fits}
 use Rattle.sheet.specs.declared.answers.Sizes.{Sizes}
 use Rattle.sheet.specs.declared.answers.Outputs.{Outputs}
 
@@ -94,3 +94,22 @@ isSet flag = not (eqb flag 0)
 -- "the part of the entries from its start to its end", of a list that goes row after row
 unfoldable pub part : {A : Type 0} → List ℕ → ℕ → List A → List A
 part starts row xs = take (getD starts (row + 1) 0 - getD starts row 0) (drop (getD starts row 0) xs)
+
+-- every number of a list is a double: the library's `Float` is any number, a slice's are of 64 bits
+pub record AllDoubles (xs : List Float) : Type 0 where
+  pub fit-at : (k : ℕ) → T (fits binary64 (getD xs k nan))
+
+-- every number on the sheet is
+pub record Doubles (s : Sheet) : Type 0 where
+  pub entries-fit : AllDoubles (s .entries)
+  pub right-sides-fit : AllDoubles (s .rightSides)
+  pub scales-fit : AllDoubles (s .scales)
+  pub feasibility-fits : T (fits binary64 (s .feasibility))
+  pub mins-fit : AllDoubles (s .mins)
+  pub maxs-fit : AllDoubles (s .maxs)
+  pub low-fit : AllDoubles (s .lowTolerances)
+  pub high-fit : AllDoubles (s .highTolerances)
+  pub values-fit : AllDoubles (s .values)
+  pub rho-hi-fit : AllDoubles (s .rhoHi)
+  pub rho-lo-fit : AllDoubles (s .rhoLo)
+  pub second-fit : AllDoubles (s .second)
