@@ -29,7 +29,13 @@ fn with_entry(structurals: usize, values: &[f64], v: usize, coeff: f64, a: Activ
 }
 
 /// The activity of a row with this right side, these columns and entries, at the variables' values.
-pub fn row_activity(structurals: usize, right_side: f64, columns: &[usize], entries: &[f64], values: &[f64]) -> Activity
+pub fn row_activity(
+    structurals: usize,
+    right_side: f64,
+    columns: &[usize],
+    entries: &[f64],
+    values: &[f64],
+) -> Activity
     requires { ⌜ length (now entries) ≡ length (now columns) ⌝ }
     requires { ⌜ structurals ≤ length (now values) ⌝ }
     ensures { λ r. ⌜ r ≡ rowActivity structurals «right_side» (now (columns .entry)) (now (entries .entry)) (now (values .entry)) ⌝ }

@@ -31,18 +31,32 @@ pub fn is_integer(structurals: usize, integer: &[u8], v: usize) -> bool
     requires { ⌜ structurals ≤ length (now integer) ⌝ }
     ensures { λ r. ⌜ r ≡ isInteger structurals (now (integer .entry)) v ⌝ }
 {
-    if v < structurals { integer[v] != 0 } else { false }
+    if v < structurals {
+        integer[v] != 0
+    } else {
+        false
+    }
 }
 
 /// Whether `v` is kept on its bounds: an integer variable, or a structural one that its bounds fix.
-pub fn holds_on_bounds(structurals: usize, integer: &[u8], mins: &[f64], maxs: &[f64], v: usize) -> bool
+pub fn holds_on_bounds(
+    structurals: usize,
+    integer: &[u8],
+    mins: &[f64],
+    maxs: &[f64],
+    v: usize,
+) -> bool
     requires { ⌜ (structurals ≤ length (now integer)) × (structurals ≤ length (now mins)) × (structurals ≤ length (now maxs)) ⌝ }
     ensures { λ r. ⌜ r ≡ holdsOnBounds structurals (now (integer .entry)) (now (mins .entry)) (now (maxs .entry)) v ⌝ }
 {
     if is_integer(structurals, integer, v) {
         return true;
     }
-    if v < structurals { mins[v] == maxs[v] } else { false }
+    if v < structurals {
+        mins[v] == maxs[v]
+    } else {
+        false
+    }
 }
 
 /// The variable whose basis place has the leaving row's number; the variable count where there is none.
@@ -90,8 +104,7 @@ pub fn widening_room(
         return BoundTols {
             lo: low_tolerances[v],
             hi: high_tolerances[v],
-        }
-        .toward(up);
+        }.toward(up);
     }
     let r = v - structurals;
     let start = starts[r];

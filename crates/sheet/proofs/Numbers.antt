@@ -1,23 +1,15 @@
 -- A refusal's number is its own: from the number the refusal is told. Assumes nothing.
 use mathlib.Core.Path.{_≡_, refl, sym, ap, _∙_}
+use mathlib.Core.List.{[], _∷_}
 use Prim.Native.Nat.{ℕ}
+use lib.ListN.{getD}
 use Rattle.sheet.specs.declared.answers.Refusal.{Refusal}
 use Rattle.sheet.specs.declared.answers.Refusal.the-variants.{None, Sizes, Lengths, RowStarts, Columns, Entries, Bounds, Tolerances, Basis, Values, Widened, LeavingRow}
 use Rattle.sheet.specs.Answers.{numberOf}
 
-told : ℕ → Refusal
-told 2 = Sizes
-told 3 = Lengths
-told 4 = RowStarts
-told 5 = Columns
-told 6 = Entries
-told 7 = Bounds
-told 8 = Tolerances
-told 9 = Basis
-told 10 = Values
-told 11 = Widened
-told 12 = LeavingRow
-told n = None
+-- the refusals by their numbers
+abbrev told : ℕ → Refusal
+told n = getD (None ∷ None ∷ Sizes ∷ Lengths ∷ RowStarts ∷ Columns ∷ Entries ∷ Bounds ∷ Tolerances ∷ Basis ∷ Values ∷ Widened ∷ LeavingRow ∷ []) n None
 
 told-number : (a : Refusal) → told (numberOf a) ≡ a
 told-number None = refl
