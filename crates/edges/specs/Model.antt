@@ -52,9 +52,15 @@ modelOf s =
     (s .lowTolerances) (s .highTolerances) (s .values) (s .widenedVariables) (s .widenedUps)
 
 -- a variable's bound on the upper or the lower side
+abbrev pub boundAt : List Float → List Float → ℕ → Bool → Float
+boundAt mins maxs v up = cond up (getD maxs v nan) (getD mins v nan)
+
 abbrev pub boundOf : Model → ℕ → Bool → Float
-boundOf m v up = cond up (getD (m .maxs) v nan) (getD (m .mins) v nan)
+boundOf m v up = boundAt (m .mins) (m .maxs) v up
 
 -- its tolerances toward each
+abbrev pub tolsAt : List Float → List Float → ℕ → BoundTols
+tolsAt low high v = record { lo = getD low v nan; hi = getD high v nan }
+
 abbrev pub tolsOf : Model → ℕ → BoundTols
-tolsOf m v = record { lo = getD (m .lowTolerances) v nan; hi = getD (m .highTolerances) v nan }
+tolsOf m v = tolsAt (m .lowTolerances) (m .highTolerances) v

@@ -3,7 +3,8 @@ ghost use mathlib.Core.Path.{_≡_};
 ghost use mathlib.Core.Bool.{Bool};
 ghost use Prim.Native.Nat.{_≤_, _<_};
 ghost use lib.ListN.{length};
-ghost use Rattle.edges.specs.Model.{model};
+ghost use Rattle.tolerances.specs.Tolerances.{toward};
+ghost use Rattle.edges.specs.Model.{boundAt, model, tolsAt};
 ghost use Rattle.edges.specs.Edges.{edge, holderFrom, holdsOnBounds, isInteger, isWidened, wideningRoom};
 ghost use Rattle.edges.specs.Reads.{Readable};
 use crate::activity::slack_room;
@@ -74,6 +75,26 @@ pub fn leaving_variable(basic: &[u8], places: &[usize], leaving_row: usize) -> u
     v
 }
 
+/// The bound of `v` on this side.
+fn bound_of(mins: &[f64], maxs: &[f64], v: usize, up: bool) -> f64
+    requires { ⌜ (v < length (now mins)) × (v < length (now maxs)) ⌝ }
+    ensures { λ r. ⌜ r ≡ boundAt (now (mins .entry)) (now (maxs .entry)) v up ⌝ }
+{
+    if up { maxs[v] } else { mins[v] }
+}
+
+/// The tolerance of `v` toward this side.
+fn tolerance_of(low_tolerances: &[f64], high_tolerances: &[f64], v: usize, up: bool) -> f64
+    requires { ⌜ (v < length (now «low_tolerances»)) × (v < length (now «high_tolerances»)) ⌝ }
+    ensures { λ r. ⌜ r ≡ toward (tolsAt (now («low_tolerances» .entry)) (now («high_tolerances» .entry)) v) up ⌝ }
+{
+    let tols = BoundTols {
+        lo: low_tolerances[v],
+        hi: high_tolerances[v],
+    };
+    tols.toward(up)
+}
+
 /// How far the bound of `v` on this side may move out where `v` is not leaving.
 pub fn widening_room(
     structurals: usize,
@@ -101,10 +122,7 @@ pub fn widening_room(
         return 0.0;
     }
     if v < structurals {
-        return BoundTols {
-            lo: low_tolerances[v],
-            hi: high_tolerances[v],
-        }.toward(up);
+        return tolerance_of(low_tolerances, high_tolerances, v, up);
     }
     let r = v - structurals;
     let start = starts[r];
@@ -144,16 +162,13 @@ pub fn edge(
     requires { ⌜ Readable (model structurals feasibility (now starts) (now columns) (now entries) (now «right_sides») (now scales) (now integer) (now mins) (now maxs) (now «low_tolerances») (now «high_tolerances») (now values) (now «widened_vars») (now «widened_ups»)) v ⌝ }
     ensures { λ r. ⌜ r ≡ edge (model structurals feasibility (now (starts .entry)) (now (columns .entry)) (now (entries .entry)) (now («right_sides» .entry)) (now (scales .entry)) (now (integer .entry)) (now (mins .entry)) (now (maxs .entry)) (now («low_tolerances» .entry)) (now («high_tolerances» .entry)) (now (values .entry)) (now («widened_vars» .entry)) (now («widened_ups» .entry))) leaving v up ⌝ }
 {
-    let bound = if up { maxs[v] } else { mins[v] };
+    let bound = bound_of(mins, maxs, v, up);
     if !is_finite(bound) {
         return bound;
     }
     if v == leaving {
-        let tols = BoundTols {
-            lo: low_tolerances[v],
-            hi: high_tolerances[v],
-        };
-        return band_edge(bound, tols.toward(up), up);
+        let tol = tolerance_of(low_tolerances, high_tolerances, v, up);
+        return band_edge(bound, tol, up);
     }
     if holds_on_bounds(structurals, integer, mins, maxs, v) {
         return bound;

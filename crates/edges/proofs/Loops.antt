@@ -1,0 +1,99 @@
+-- The loops over a row's entries, over the widened list and over the basis places, on lists. Assumes nothing.
+use native.Mathlib.Omega.{arith}
+use native.Mathlib.Nat.{le-antisymm}
+use native.Mathlib.Numerals.{add-one}
+use mathlib.Core.Path.{_≡_, refl, ap, sym, _∙_}
+use mathlib.Core.Logic.{inl, inr}
+use mathlib.Core.Bool.{Bool, true, false, cond, _&&_, _||_, Bool·beq, or-true}
+use mathlib.Core.List.{List}
+use Prim.Native.Nat.{ℕ, zero, suc, _+_, _-_, _<_, _≤_}
+use lib.Dec.{eqb}
+use lib.ListN.{length, getD}
+use lib.Ieee.{Float, nan}
+use Rattle.exact.proofs.Naturals.{le-or-lt}
+use Rattle.sheet.specs.Sheet.{isSet}
+use Rattle.sheet.specs.Places.{holdsPlace, widenedAmong}
+use Rattle.edges.specs.declared.activity.Activity.{Activity}
+use Rattle.edges.specs.Activity.{withEntry, afterEntries}
+use Rattle.edges.specs.Edges.{isWidened, holderFrom}
+
+-- ---- a row's entries: the first k are in
+pub record Entered (structurals : ℕ) (values : List Float) (columns : List ℕ) (entries : List Float) (a₀ : Activity) (k : ℕ) (a : Activity) : Type 0 where
+  pub within : k ≤ length columns
+  pub so-far : a ≡ afterEntries structurals values columns entries k a₀
+
+module _ (structurals : ℕ) (values : List Float) (columns : List ℕ) (entries : List Float) (a₀ : Activity) where
+  pub none-entered : Entered structurals values columns entries a₀ 0 a₀
+  unfolding afterEntries
+  none-entered = record { within = omega arith; so-far = refl }
+
+module _ {structurals : ℕ} {values : List Float} {columns : List ℕ} {entries : List Float} {a₀ a : Activity} {k : ℕ} (turn : Entered structurals values columns entries a₀ k a) where
+  pub one-entered : {after : Activity} → k < length columns → after ≡ withEntry structurals values (getD columns k 0) (getD entries k nan) a → Entered structurals values columns entries a₀ (k + 1) after
+  unfolding afterEntries
+  one-entered less e =
+      record { within = omega arith; so-far = rw add-one (e ∙ ap (withEntry structurals values (getD columns k 0) (getD entries k nan)) (turn .so-far)) }
+
+  pub all-entered : length columns ≤ k → a ≡ afterEntries structurals values columns entries (length columns) a₀
+  all-entered end = turn .so-far ∙ ap (λ (n : ℕ). afterEntries structurals values columns entries n a₀) (le-antisymm (turn .within) end)
+
+-- ---- the widened list: the first k items are others
+module _ (vars ups : List ℕ) (v : ℕ) (up : Bool) where
+  abbrev pub matches : ℕ → Bool
+  matches k = eqb (getD vars k 0) v && Bool·beq (isSet (getD ups k 0)) up
+
+  pub record Unmet (k : ℕ) : Type 0 where
+    pub within : k ≤ length vars
+    pub so-far : widenedAmong vars ups k v up ≡ false
+
+  pub none-met : Unmet 0
+  unfolding widenedAmong
+  none-met = record { within = omega arith; so-far = refl }
+
+  met : (k n : ℕ) → k < n → matches k ≡ true → widenedAmong vars ups n v up ≡ true
+  unfolding widenedAmong
+  met k zero less here = absurd (omega arith)
+  met k (suc n) less here =
+      elim (le-or-lt n k) [
+        | inl last ↦ let e : k ≡ n = omega arith in rw (sym e) (rw here (or-true (widenedAmong vars ups k v up)))
+        | inr before ↦ rw (met k n before here) refl
+      ]
+
+  module _ {k : ℕ} (turn : Unmet k) where
+    pub one-unmet : k < length vars → matches k ≡ false → Unmet (k + 1)
+    unfolding widenedAmong
+    one-unmet less here = record { within = omega arith; so-far = rw add-one (rw (turn .so-far, here) refl) }
+
+    pub is-met : k < length vars → matches k ≡ true → true ≡ isWidened vars ups v up
+    is-met less here = sym (met k (length vars) less here)
+
+    pub all-unmet : length vars ≤ k → false ≡ isWidened vars ups v up
+    all-unmet end = sym (turn .so-far) ∙ ap (λ (n : ℕ). widenedAmong vars ups n v up) (le-antisymm (turn .within) end)
+
+-- ---- the basis places: the first v variables hold others
+module _ (basic places : List ℕ) (p : ℕ) where
+  abbrev holder : ℕ
+  holder = holderFrom basic places p 0 (length basic)
+
+  pub record Unheld (v : ℕ) : Type 0 where
+    pub within : v ≤ length basic
+    pub so-far : holder ≡ holderFrom basic places p v (length basic - v)
+
+  pub none-held : Unheld 0
+  none-held = let e : length basic - 0 ≡ length basic = omega arith in record { within = omega arith; so-far = sym (ap (λ (n : ℕ). holderFrom basic places p 0 n) e) }
+
+  from-here : (v : ℕ) → v < length basic → holderFrom basic places p v (length basic - v) ≡ cond (holdsPlace basic places p v) v (holderFrom basic places p (v + 1) (length basic - (v + 1)))
+  unfolding holderFrom
+  from-here v less = let e : length basic - v ≡ suc (length basic - (v + 1)) = omega arith in rw e (rw add-one refl)
+
+  module _ {v : ℕ} (turn : Unheld v) where
+    pub one-unheld : v < length basic → holdsPlace basic places p v ≡ false → Unheld (v + 1)
+    one-unheld less here =
+        record { within = omega arith; so-far = turn .so-far ∙ from-here v less ∙ ap (λ (b : Bool). cond b v (holderFrom basic places p (v + 1) (length basic - (v + 1)))) here }
+
+    pub is-held : v < length basic → holdsPlace basic places p v ≡ true → v ≡ holder
+    is-held less here =
+        sym (turn .so-far ∙ from-here v less ∙ ap (λ (b : Bool). cond b v (holderFrom basic places p (v + 1) (length basic - (v + 1)))) here)
+
+    pub all-unheld : length basic ≤ v → v ≡ holder
+    unfolding holderFrom
+    all-unheld end = let e : length basic - v ≡ 0 = omega arith in sym (turn .so-far ∙ ap (λ (n : ℕ). holderFrom basic places p v n) e)
