@@ -5,3 +5,4 @@ pub mod Tests
 pub mod Ask
 pub mod Accepted
 pub mod Numbers
+pub mod Consequences
