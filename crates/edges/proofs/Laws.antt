@@ -26,10 +26,11 @@ use Rattle.doubles.proofs.Next.{next-mirror, next-up-law}
 use Rattle.doubles.proofs.Clear.{absolute-fits, absolute-clear}
 use Rattle.cdouble.specs.Compensated.{_⊕_, _⊖_, _⊗_, plusZero}
 use Rattle.cdouble.proofs.RoundedUp.{exact-zero, zero-fits}
-use Rattle.sheet.specs.Sheet.{Sheet, variables, Doubles, part}
-use Rattle.sheet.specs.Places.{holdsPlace}
+use Rattle.sheet.specs.Sheet.{Sheet, variables, Doubles}
+use Rattle.questions.specs.Rows.{part}
+use Rattle.questions.specs.Places.{holdsPlace}
 use Rattle.sheet.specs.Answers.{Accepted}
-use Rattle.sheet.specs.Rows.{RowsLie}
+use Rattle.questions.specs.Rows.{RowsLie}
 use Rattle.sheet.proofs.Accepted.{AllYes, all-yes, rows-lie}
 use Rattle.sheet.proofs.Consequences.{Plain, le-no-nan, lengths, by-variable, by-row, range-at, low-plain, high-plain, feasibility-plain, scale-plain, product-finite, Holds, holder, one-holder, leaving-lt}
 use Rattle.tolerances.specs.Tolerances.{toward, slackMargin, slackTol}

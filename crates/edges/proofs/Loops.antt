@@ -11,8 +11,8 @@ use lib.Dec.{eqb}
 use lib.ListN.{length, getD}
 use lib.Ieee.{Float, nan}
 use Rattle.exact.proofs.Naturals.{le-or-lt}
-use Rattle.sheet.specs.Sheet.{isSet}
-use Rattle.sheet.specs.Places.{holdsPlace, widenedAmong}
+use Rattle.questions.specs.Rows.{isSet}
+use Rattle.questions.specs.Places.{holdsPlace, widenedAmong}
 use Rattle.edges.specs.declared.activity.Activity.{Activity}
 use Rattle.edges.specs.Activity.{withEntry, afterEntries}
 use Rattle.edges.specs.Edges.{isWidened, holderFrom}

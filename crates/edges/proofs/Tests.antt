@@ -11,7 +11,7 @@ use lib.Ieee.Scale.{finite}
 use Rattle.doubles.specs.Compare.{absolute}
 use Rattle.cdouble.specs.Compensated.{_⊕_, _⊗_, plusZero}
 use Rattle.cdouble.proofs.Contracts.{when-true, when-false}
-use Rattle.sheet.specs.Sheet.{isSet}
+use Rattle.questions.specs.Rows.{isSet}
 use Rattle.tolerances.specs.Tolerances.{toward, trimmedRoom}
 use Rattle.tolerances.specs.BandEdge.{bandEdge}
 use Rattle.edges.specs.declared.activity.Activity.{Activity}

@@ -7,7 +7,7 @@ use lib.ListN.{length, getD}
 use lib.Ieee.{Float, nan}
 use Rattle.doubles.specs.Compare.{absolute}
 use Rattle.cdouble.specs.Compensated.{_⊕_, _⊗_, plusZero}
-use Rattle.sheet.specs.Sheet.{part}
+use Rattle.questions.specs.Rows.{part}
 use Rattle.tolerances.specs.Tolerances.{trimmedRoom}
 use Rattle.edges.specs.declared.activity.Activity.{Activity}
 use Rattle.edges.specs.Model.{Model}

@@ -7,8 +7,9 @@ use lib.ListN.{length, getD}
 use lib.Ieee.{Float, nan, eq}
 use lib.Ieee.Scale.{finite}
 use Rattle.cdouble.specs.Compensated.{plusZero}
-use Rattle.sheet.specs.Sheet.{Sheet, isSet}
-use Rattle.sheet.specs.Places.{holdsPlace, widenedAmong}
+use Rattle.sheet.specs.Sheet.{Sheet}
+use Rattle.questions.specs.Rows.{isSet}
+use Rattle.questions.specs.Places.{holdsPlace, widenedAmong}
 use Rattle.tolerances.specs.Tolerances.{toward}
 use Rattle.tolerances.specs.BandEdge.{bandEdge}
 use Rattle.edges.specs.Model.{Model, modelOf, boundOf, tolsOf}

@@ -8,13 +8,14 @@ use borrow.Author.Tests.{eqb-true, leb-true, ltb-true}
 use lib.Dec.{eqb, leb, ltb}
 use lib.Ieee.{Float}
 use lib.ListN.{length, getD}
-use Rattle.sheet.specs.Limits.{mostRows, mostStructurals, mostEntries}
+use Rattle.questions.specs.Limits.{mostRows, mostStructurals, mostEntries}
 use Rattle.sheet.specs.Sheet.{Sheet, variables}
-use Rattle.sheet.specs.Places.{allBelow}
-use Rattle.sheet.specs.Rows.{RowsLie}
-use Rattle.sheet.specs.Questions.{sizesFine, rowsFit, variablesFit, outputsFit, lengthsFine, risesAt, startsFine, columnsFine, entriesFine, boundsFine, tolerancesFine, basisFine, allFinite, widenedFine}
+use Rattle.questions.specs.Places.{allBelow}
+use Rattle.questions.specs.Rows.{RowsLie}
+use Rattle.sheet.specs.Lengths.{rowsFit, variablesFit, outputsFit, lengthsFine}
+use Rattle.questions.specs.Questions.{sizesFine, risesAt, startsFine, columnsFine, entriesFine, boundsFine, tolerancesFine, basisFine, allFinite, widenedFine}
 use Rattle.sheet.specs.Answers.{ask, firstNo, Accepted}
-use Rattle.sheet.proofs.All.{Each, each, all-at}
+use Rattle.questions.proofs.All.{Each, each, all-at}
 
 -- ---- 2
 pub record SizesHold (rows structurals entries : ℕ) : Type 0 where

@@ -13,10 +13,10 @@ use lib.Ieee.Scale.{finite}
 use Rattle.exact.specs.Value.{sign}
 use Rattle.exact.proofs.Naturals.{le-or-lt}
 use Rattle.sheet.specs.Sheet.{Sheet, variables}
-use Rattle.sheet.specs.Places.{allBelow, holdsPlace, holders}
-use Rattle.sheet.specs.Questions.{finiteAt, allFinite, slackEntryFineAt, entriesFine, rangeFine, rangeFineAt, boundsFine, plain, plainAt, allPlain, productFiniteAt, tolerancesFine, placeFineAt, heldOnceAt, basisFine}
-use Rattle.sheet.proofs.All.{Each, each, and-left, and-right, all-at}
-use Rattle.sheet.proofs.Tests.{passes}
+use Rattle.questions.specs.Places.{allBelow, holdsPlace, holders}
+use Rattle.questions.specs.Questions.{finiteAt, allFinite, slackEntryFineAt, entriesFine, rangeFine, rangeFineAt, boundsFine, plain, plainAt, allPlain, productFiniteAt, tolerancesFine, placeFineAt, heldOnceAt, basisFine}
+use Rattle.questions.proofs.All.{Each, each, and-left, and-right, all-at}
+use Rattle.questions.proofs.Tests.{passes}
 use Rattle.sheet.proofs.Accepted.{RowsHold, VariablesHold, LengthsHold, lengths-hold, AllYes}
 
 -- ---- 6 and 10: a list whose numbers are finite

@@ -1,7 +1,3 @@
-pub mod All
-pub mod Tallies
-pub mod Marks
-pub mod Tests
 pub mod Ask
 pub mod Accepted
 pub mod Numbers

@@ -1,7 +1,3 @@
-pub mod Limits
 pub mod Sheet
-pub mod Places
-pub mod Rows
-pub mod Questions
-pub mod Tallies
+pub mod Lengths
 pub mod Answers

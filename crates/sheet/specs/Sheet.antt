@@ -1,9 +1,8 @@
 -- The sheet: one field for each number and each lent slice. Document 01, "Questions put to the input" and "The sheet". Assumes nothing.
-use mathlib.Core.Bool.{Bool, not}
 use mathlib.Core.List.{List}
-use Prim.Native.Nat.{ℕ, _+_, _-_}
-use lib.Dec.{T, eqb}
-use lib.ListN.{getD, take, drop}
+use Prim.Native.Nat.{ℕ, _+_}
+use lib.Dec.{T}
+use lib.ListN.{getD}
 use lib.Ieee.{Float, nan, binary64, fits}
 use Rattle.sheet.specs.declared.answers.Sizes.{Sizes}
 use Rattle.sheet.specs.declared.answers.Outputs.{Outputs}
@@ -82,18 +81,6 @@ sheet sizes feasibility checked leavingRow leavingUp outputs starts columns entr
 -- "Variables here include the slacks"
 abbrev pub variables : Sheet → ℕ
 variables s = s .structurals + s .rows
-
--- "its own slack (structural count + row)"
-abbrev pub slackOf : ℕ → ℕ → ℕ
-slackOf structurals row = structurals + row
-
--- "a byte flag is set unless 0"
-abbrev pub isSet : ℕ → Bool
-isSet flag = not (eqb flag 0)
-
--- "the part of the entries from its start to its end", of a list that goes row after row
-unfoldable pub part : {A : Type 0} → List ℕ → ℕ → List A → List A
-part starts row xs = take (getD starts (row + 1) 0 - getD starts row 0) (drop (getD starts row 0) xs)
 
 -- every number of a list is a double: the library's `Float` is any number, a slice's are of 64 bits
 pub record AllDoubles (xs : List Float) : Type 0 where

@@ -2,24 +2,21 @@
 ghost use mathlib.Core.Path.{_≡_};
 ghost use Prim.Native.Nat.{_≤_};
 ghost use Rattle.sheet.specs.Sheet.{sheet};
-ghost use Rattle.sheet.specs.Limits.{mostRows};
-ghost use Rattle.sheet.specs.Questions.{outputsFit, rowsFit, sizesFine, variablesFit};
+ghost use Rattle.questions.specs.Limits.{mostRows};
+ghost use Rattle.sheet.specs.Lengths.{outputsFit, rowsFit, variablesFit};
+ghost use Rattle.questions.specs.Questions.{sizesFine};
 ghost use Rattle.sheet.specs.Answers.{firstNo, numberOf};
-use crate::basis::basis_fine;
-use crate::lists::all_finite;
-use crate::lists::bounds_fine;
-use crate::lists::tolerances_fine;
-use crate::rows::columns_fine;
-use crate::rows::entries_fine;
-use crate::rows::starts_fine;
-use crate::widened::widened_fine;
-
-/// The limits of the second question.
-pub const MOST_ROWS: usize = 128;
-
-pub const MOST_STRUCTURALS: usize = 256;
-
-pub const MOST_ENTRIES: usize = 4096;
+use questions::basis_fine;
+use questions::all_finite;
+use questions::bounds_fine;
+use questions::tolerances_fine;
+use questions::columns_fine;
+use questions::entries_fine;
+use questions::starts_fine;
+use questions::widened_fine;
+use questions::MOST_ENTRIES;
+use questions::MOST_ROWS;
+use questions::MOST_STRUCTURALS;
 
 /// How many rows, structural variables and entries there are.
 pub struct Sizes {

@@ -1,9 +1,5 @@
 //! The sheet that the counter lends: its sizes, and the questions put to it before anything is weighed.
 mod answers;
-mod basis;
-mod lists;
-mod rows;
-mod widened;
 
 pub use answers::Outputs;
 pub use answers::Refusal;

@@ -6,8 +6,9 @@ use mathlib.Core.Bool.{Bool, false, not, _&&_}
 use Prim.Native.Nat.{ℕ}
 use lib.ListN.{length}
 use lib.Dec.{eqb}
-use Rattle.sheet.specs.Questions.{sizesFine, rowsFit, variablesFit, outputsFit, lengthsFine, startsFine}
-use Rattle.sheet.specs.Rows.{RowsLie}
+use Rattle.sheet.specs.Lengths.{rowsFit, variablesFit, outputsFit, lengthsFine}
+use Rattle.questions.specs.Questions.{sizesFine, startsFine}
+use Rattle.questions.specs.Rows.{RowsLie}
 use Rattle.sheet.specs.Answers.{firstNo}
 use Rattle.sheet.specs.Sheet.{Sheet, sheet, variables}
 use Rattle.sheet.proofs.Accepted.{SizesHold, LengthsHold, sizes-hold, lengths-hold, rows-lie}

@@ -1,7 +1,7 @@
 -- `outputs_fit` meets its contract. Assumes nothing.
 use borrow.Author.Needs.{needs}
 use mathlib.Core.Path.{refl}
-use Rattle.sheet.specs.Questions.{outputsFit}
+use Rattle.sheet.specs.Lengths.{outputsFit}
 use Rattle.sheet.proofs.answers.outputs_fit.Statement.{statement}
 use Rattle.sheet.proofs.answers.outputs_fit.Tie as tie
 

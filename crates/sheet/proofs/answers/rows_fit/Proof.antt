@@ -1,7 +1,7 @@
 -- `rows_fit` meets its contract. Assumes nothing.
 use borrow.Author.Needs.{needs}
 use mathlib.Core.Path.{refl}
-use Rattle.sheet.specs.Questions.{rowsFit}
+use Rattle.sheet.specs.Lengths.{rowsFit}
 use Rattle.sheet.proofs.answers.rows_fit.Statement.{statement}
 use Rattle.sheet.proofs.answers.rows_fit.Tie as tie
 

@@ -1,7 +1,7 @@
 -- `sizes_fine` meets its contract. Assumes nothing.
 use borrow.Author.Needs.{needs}
 use mathlib.Core.Path.{refl}
-use Rattle.sheet.specs.Questions.{sizesFine}
+use Rattle.questions.specs.Questions.{sizesFine}
 use Rattle.sheet.proofs.answers.sizes_fine.Statement.{statement}
 use Rattle.sheet.proofs.answers.sizes_fine.Tie as tie
 

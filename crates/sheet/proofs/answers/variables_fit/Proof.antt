@@ -1,7 +1,7 @@
 -- `variables_fit` meets its contract. Assumes nothing.
 use borrow.Author.Needs.{needs}
 use mathlib.Core.Path.{refl}
-use Rattle.sheet.specs.Questions.{variablesFit}
+use Rattle.sheet.specs.Lengths.{variablesFit}
 use Rattle.sheet.proofs.answers.variables_fit.Statement.{statement}
 use Rattle.sheet.proofs.answers.variables_fit.Tie as tie
 

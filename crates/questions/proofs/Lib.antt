@@ -1,0 +1,4 @@
+pub mod All
+pub mod Tallies
+pub mod Marks
+pub mod Tests

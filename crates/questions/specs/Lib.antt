@@ -1,0 +1,5 @@
+pub mod Limits
+pub mod Rows
+pub mod Places
+pub mod Questions
+pub mod Tallies
