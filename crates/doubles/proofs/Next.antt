@@ -6,7 +6,7 @@ use native.Mathlib.Omega.{arith}
 use lib.IntN.{ℤ, pos, negsuc, negℤ, _+ℤ_, _*ℤ_, negℤ-negℤ}
 use lib.Dec.{T, lit<}
 use lib.Ieee.{Float, nan, inf, fin, binary64, fits, neg}
-use lib.Ieee.Fits.{neg-fits}
+use lib.Ieee.Fits.{nan-fits, inf-fits, neg-fits}
 use lib.Ieee.Scale.{finite}
 use Rattle.exact.specs.Value.{exact, exactAt}
 use Rattle.exact.specs.Integers.{_≼_, _≺_}
@@ -16,7 +16,7 @@ use Rattle.exact.proofs.Values.{exact-neg, exactAt-neg, finite-neg, neg-neg}
 use Rattle.doubles.specs.Rank.{largest}
 use Rattle.doubles.specs.Directed.{withZero, roundUp, roundDown, IsUp, IsDown}
 use Rattle.doubles.specs.Neighbours.{nextUp, nextDown, IsNextUp, IsNextDown}
-use Rattle.doubles.proofs.Patterns.{neg-double}
+use Rattle.doubles.proofs.Patterns.{neg-double, double-fits}
 use Rattle.doubles.proofs.Zero.{exact-withZero, finite-withZero, nan-withZero, fits-withZero, neg-withZero, infinity-withZero}
 use Rattle.doubles.proofs.Directed.{round-up-law}
 use Rattle.doubles.proofs.Mirror.{mirror, round-down-law}
@@ -113,3 +113,14 @@ up-after-down x f h g =
     ∙ exact-neg (nextDown u)
     ∙ ap negℤ (down-after-up y (subst T (sym (finite-neg x)) f) (neg-fits binary64 x h) t ∙ exact-neg x)
     ∙ negℤ-negℤ (exact x)
+
+-- ---- a neighbour is a double
+pub next-up-fits : (x : Float) → T (fits binary64 (nextUp x))
+unfolding nextUp
+next-up-fits nan = nan-fits binary64
+next-up-fits (inf true) = double-fits true largest
+next-up-fits (inf false) = inf-fits binary64 false
+next-up-fits (fin s m e) = next-up-law (fin s m e) tt .fit
+
+pub next-down-fits : (x : Float) → T (fits binary64 (nextDown x))
+next-down-fits x = rw (next-mirror x) (neg-fits binary64 _ (next-up-fits _))

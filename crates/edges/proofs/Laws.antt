@@ -16,7 +16,7 @@ use lib.Ieee.Scale.{finite}
 use Rattle.exact.specs.Value.{sign, exact}
 use Rattle.exact.proofs.Naturals.{le-or-lt}
 use Rattle.exact.proofs.Order.{≼-refl, ≼-trans}
-use Rattle.exact.proofs.Compare.{le-exact, le-top, le-bottom}
+use Rattle.exact.proofs.Compare.{le-no-nan, le-same, le-trans, le-exact}
 use Rattle.exact.proofs.Signs.{add-clear, mul-clear, exact-clear}
 use Rattle.doubles.specs.Rank.{largest}
 use Rattle.doubles.specs.Compare.{absolute}
@@ -32,63 +32,16 @@ use Rattle.questions.specs.Places.{holdsPlace}
 use Rattle.sheet.specs.Answers.{Accepted}
 use Rattle.questions.specs.Rows.{RowsLie}
 use Rattle.sheet.proofs.Accepted.{AllYes, all-yes, rows-lie}
-use Rattle.sheet.proofs.Consequences.{Plain, le-no-nan, lengths, by-variable, by-row, range-at, low-plain, high-plain, feasibility-plain, scale-plain, product-finite, Holds, holder, one-holder, leaving-lt}
+use Rattle.sheet.proofs.Consequences.{Plain, lengths, by-variable, by-row, range-at, low-plain, high-plain, feasibility-plain, scale-plain, product-finite, Holds, holder, one-holder, leaving-lt}
 use Rattle.tolerances.specs.Tolerances.{toward, slackMargin, slackTol}
 use Rattle.tolerances.specs.BandEdge.{bandStart, tooFar, stepBack, turns, bandEdge}
 use Rattle.tolerances.proofs.Room.{trimmed-room-fits, trimmed-room-law, no-minus-zero}
-use Rattle.tolerances.proofs.BandEdge.{band-edge-law}
+use Rattle.tolerances.proofs.BandEdge.{band-edge-law, band-edge-fits}
 use Rattle.edges.specs.declared.activity.Activity.{Activity}
 use Rattle.edges.specs.Model.{modelOf, boundOf, tolsOf}
 use Rattle.edges.specs.Activity.{activity, withEntry, afterEntries, rowActivity, rowTerms, slackRoom, slackRoomAt}
 use Rattle.edges.specs.Edges.{isWidened, holdsOnBounds, wideningRoom, holderFrom, leavingVariable, edge, lowEdge, highEdge}
 use Rattle.edges.specs.Reads.{RowReadable, Readable}
-
--- ---- the order of doubles, infinities included
-le-same : (x : Float) → T (not (isNan x)) → T (fits binary64 x) → T (le x x)
-unfolding isNan
-le-same nan t h = absurd t
-le-same (inf true) t h = le-bottom (inf true) tt
-le-same (inf false) t h = le-top (inf false) tt
-le-same (fin s m e) t h = let x = fin s m e in le-exact x x tt tt h h .1 (≼-refl (exact x))
-
-le-trans : (x y z : Float) → T (fits binary64 x) → T (fits binary64 y) → T (fits binary64 z) → T (le x y) → T (le y z) → T (le x z)
-unfolding le lt eq
-le-trans nan y z hx hy hz o p = absurd o
-le-trans (inf true) y z hx hy hz o p = le-bottom z (le-no-nan y z p .1)
-le-trans (inf false) nan z hx hy hz o p = absurd o
-le-trans (inf false) (inf true) z hx hy hz o p = absurd o
-le-trans (inf false) (inf false) z hx hy hz o p = p
-le-trans (inf false) (fin t n d) z hx hy hz o p = absurd o
-le-trans (fin s m e) nan z hx hy hz o p = absurd o
-le-trans (fin s m e) (inf true) z hx hy hz o p = absurd o
-le-trans (fin s m e) (inf false) nan hx hy hz o p = absurd p
-le-trans (fin s m e) (inf false) (inf true) hx hy hz o p = absurd p
-le-trans (fin s m e) (inf false) (inf false) hx hy hz o p = tt
-le-trans (fin s m e) (inf false) (fin r k c) hx hy hz o p = absurd p
-le-trans (fin s m e) (fin t n d) nan hx hy hz o p = absurd p
-le-trans (fin s m e) (fin t n d) (inf true) hx hy hz o p = absurd p
-le-trans (fin s m e) (fin t n d) (inf false) hx hy hz o p = tt
-le-trans (fin s m e) (fin t n d) (fin r k c) hx hy hz o p =
-    le-exact (fin s m e) (fin r k c) tt tt hx hz .1 (≼-trans (le-exact (fin s m e) (fin t n d) tt tt hx hy .0 o) (le-exact (fin t n d) (fin r k c) tt tt hy hz .0 p))
-
--- ---- `band_edge` answers a double
-next-up-fits : (x : Float) → T (fits binary64 (nextUp x))
-unfolding nextUp
-next-up-fits nan = nan-fits binary64
-next-up-fits (inf true) = double-fits true largest
-next-up-fits (inf false) = inf-fits binary64 false
-next-up-fits (fin s m e) = next-up-law (fin s m e) tt .fit
-
-next-down-fits : (x : Float) → T (fits binary64 (nextDown x))
-next-down-fits x = rw (next-mirror x) (neg-fits binary64 _ (next-up-fits _))
-
-band-edge-fits : (bound tol : Float) (up : Bool) → T (fits binary64 (bandEdge bound tol up))
-unfolding bandEdge turns stepBack bandStart
-band-edge-fits bound tol up =
-    let start = bandStart bound tol up in
-    cond-fits binary64 (tooFar bound tol start) (stepBack up start) start
-    (cond-fits binary64 up (nextDown start) (nextUp start) (next-down-fits start) (next-up-fits start))
-    (cond-fits binary64 up (bound ⊕ tol) (bound ⊖ tol) (add-fits binary64 bound tol) (sub-fits binary64 bound tol))
 
 -- ---- what is to hold of an edge, whichever way it is chosen
 pub record EdgeHolds (bound : Float) (up : Bool) (e : Float) : Type 0 where

@@ -16,7 +16,7 @@ use lib.Ieee.Scale.{finite}
 use Rattle.exact.specs.Value.{sign, magnitude, signed, exact}
 use Rattle.exact.specs.Integers.{_≼_, _≺_}
 use Rattle.exact.proofs.Difference.{differences}
-use Rattle.exact.proofs.Order.{≼-of-≺, ≼-or-≺, ≼-antisym, ≼-refl}
+use Rattle.exact.proofs.Order.{≼-of-≺, ≼-or-≺, ≼-antisym, ≼-refl, ≼-trans}
 use Rattle.exact.proofs.Signed.{above, below, SignedLt, signed-≺}
 use Rattle.exact.proofs.Values.{Whole, whole, exact-is, common}
 
@@ -158,3 +158,43 @@ le-bottom nan h = absurd h
 le-bottom (inf true) h = tt
 le-bottom (inf false) h = tt
 le-bottom (fin s m e) h = tt
+
+-- ---- the order of all doubles: numbers in order are no NaN
+pub le-no-nan : (x y : Float) → T (le x y) → T (not (isNan x)) × T (not (isNan y))
+unfolding le lt eq isNan
+le-no-nan nan y h = absurd h
+le-no-nan (inf s) nan h = absurd h
+le-no-nan (inf s) (inf t) h = (tt, tt)
+le-no-nan (inf s) (fin t n d) h = (tt, tt)
+le-no-nan (fin s m e) nan h = absurd h
+le-no-nan (fin s m e) (inf t) h = (tt, tt)
+le-no-nan (fin s m e) (fin t n d) h = (tt, tt)
+
+-- no number but a NaN is out of order with itself
+pub le-same : (x : Float) → T (not (isNan x)) → T (fits binary64 x) → T (le x x)
+unfolding isNan
+le-same nan t h = absurd t
+le-same (inf true) t h = le-bottom (inf true) tt
+le-same (inf false) t h = le-top (inf false) tt
+le-same (fin s m e) t h = let x = fin s m e in le-exact x x tt tt h h .1 (≼-refl (exact x))
+
+-- it can be followed
+pub le-trans : (x y z : Float) → T (fits binary64 x) → T (fits binary64 y) → T (fits binary64 z) → T (le x y) → T (le y z) → T (le x z)
+unfolding le lt eq
+le-trans nan y z hx hy hz o p = absurd o
+le-trans (inf true) y z hx hy hz o p = le-bottom z (le-no-nan y z p .1)
+le-trans (inf false) nan z hx hy hz o p = absurd o
+le-trans (inf false) (inf true) z hx hy hz o p = absurd o
+le-trans (inf false) (inf false) z hx hy hz o p = p
+le-trans (inf false) (fin t n d) z hx hy hz o p = absurd o
+le-trans (fin s m e) nan z hx hy hz o p = absurd o
+le-trans (fin s m e) (inf true) z hx hy hz o p = absurd o
+le-trans (fin s m e) (inf false) nan hx hy hz o p = absurd p
+le-trans (fin s m e) (inf false) (inf true) hx hy hz o p = absurd p
+le-trans (fin s m e) (inf false) (inf false) hx hy hz o p = tt
+le-trans (fin s m e) (inf false) (fin r k c) hx hy hz o p = absurd p
+le-trans (fin s m e) (fin t n d) nan hx hy hz o p = absurd p
+le-trans (fin s m e) (fin t n d) (inf true) hx hy hz o p = absurd p
+le-trans (fin s m e) (fin t n d) (inf false) hx hy hz o p = tt
+le-trans (fin s m e) (fin t n d) (fin r k c) hx hy hz o p =
+    le-exact (fin s m e) (fin r k c) tt tt hx hz .1 (≼-trans (le-exact (fin s m e) (fin t n d) tt tt hx hy .0 o) (le-exact (fin t n d) (fin r k c) tt tt hy hz .0 p))

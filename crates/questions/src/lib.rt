@@ -16,5 +16,7 @@ pub use widened::widened_fine;
 
 /// The limits of the second question.
 pub const MOST_ROWS: usize = 128;
+
 pub const MOST_STRUCTURALS: usize = 256;
+
 pub const MOST_ENTRIES: usize = 4096;

@@ -58,12 +58,7 @@ fn row_columns_fine(structurals: usize, slack: usize, columns: &[usize]) -> bool
 }
 
 /// The fifth question.
-pub fn columns_fine(
-    rows: usize,
-    structurals: usize,
-    starts: &[usize],
-    columns: &[usize],
-) -> bool
+pub fn columns_fine(rows: usize, structurals: usize, starts: &[usize], columns: &[usize]) -> bool
     requires { ⌜ RowsLie rows (length (now columns)) (now starts) ⌝ }
     requires { ⌜ structurals + rows < 2 ^ 64 ⌝ }
     ensures { λ r. ⌜ r ≡ columnsFine rows structurals (now (starts .entry)) (now (columns .entry)) ⌝ }
@@ -108,12 +103,7 @@ fn slack_entries_fine(rows: usize, starts: &[usize], entries: &[f64]) -> bool
 }
 
 /// The sixth question.
-pub fn entries_fine(
-    rows: usize,
-    starts: &[usize],
-    entries: &[f64],
-    right_sides: &[f64],
-) -> bool
+pub fn entries_fine(rows: usize, starts: &[usize], entries: &[f64], right_sides: &[f64]) -> bool
     requires { ⌜ RowsLie rows (length (now entries)) (now starts) ⌝ }
     ensures { λ r. ⌜ r ≡ entriesFine rows (now (starts .entry)) (now (entries .entry)) (now («right_sides» .entry)) ⌝ }
 {

@@ -10,6 +10,7 @@ use lib.Dec.{T}
 use lib.ListN.{length, getD}
 use lib.Ieee.{Float, nan, inf, fin, binary64, isNan, mul, lt, le, eq, ne}
 use lib.Ieee.Scale.{finite}
+use Rattle.exact.proofs.Compare.{le-no-nan}
 use Rattle.exact.specs.Value.{sign}
 use Rattle.exact.proofs.Naturals.{le-or-lt}
 use Rattle.sheet.specs.Sheet.{Sheet, variables}
@@ -24,17 +25,7 @@ pub finite-at : (xs : List Float) → allFinite xs ≡ true → (k : ℕ) → k 
 unfolding allFinite
 finite-at xs all k less = passes refl (all-at (finiteAt xs) (length xs) all k less)
 
--- ---- 7: numbers in order are no NaN
-pub le-no-nan : (x y : Float) → T (le x y) → T (not (isNan x)) × T (not (isNan y))
-unfolding le lt eq isNan
-le-no-nan nan y h = absurd h
-le-no-nan (inf s) nan h = absurd h
-le-no-nan (inf s) (inf t) h = (tt, tt)
-le-no-nan (inf s) (fin t n d) h = (tt, tt)
-le-no-nan (fin s m e) nan h = absurd h
-le-no-nan (fin s m e) (inf t) h = (tt, tt)
-le-no-nan (fin s m e) (fin t n d) h = (tt, tt)
-
+-- ---- 7
 -- a number that differs from an infinity is not that infinity
 differs : (x : Float) (s : Bool) → ne x (inf s) ≡ true → x ≡ inf s → ⊥
 unfolding ne eq

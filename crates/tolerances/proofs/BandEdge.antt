@@ -8,7 +8,7 @@ use lib.IntN.{ℤ, pos, negℤ, natAbs, _+ℤ_, _-ℤ_}
 use lib.Dec.{T, not-T, lit<}
 use lib.Ieee.{Float, nan, inf, fin, binary64, fits, neg, add, sub, lt, le, eq}
 use lib.Ieee.Bits.{is-false}
-use lib.Ieee.Fits.{neg-fits, add-fits, sub-fits}
+use lib.Ieee.Fits.{cond-fits, neg-fits, add-fits, sub-fits}
 use lib.Ieee.Scale.{finite}
 use Rattle.exact.specs.Value.{exact}
 use Rattle.exact.specs.Integers.{_≼_, _≺_}
@@ -25,10 +25,10 @@ use Rattle.doubles.specs.Compare.{absolute}
 use Rattle.doubles.specs.Neighbours.{nextUp, nextDown}
 use Rattle.doubles.proofs.Patterns.{exact-double, double-fits, finite-no-nan}
 use Rattle.doubles.proofs.Rounding.{MAX, max-greatest}
-use Rattle.doubles.proofs.Next.{next-down-law, next-mirror}
+use Rattle.doubles.proofs.Next.{next-down-law, next-mirror, next-up-fits, next-down-fits}
 use Rattle.doubles.proofs.Choice.{absolute-exact}
 use Rattle.doubles.proofs.Clear.{finite-absolute, absolute-fits}
-use Rattle.cdouble.specs.Compensated.{_⊖_, plusZero}
+use Rattle.cdouble.specs.Compensated.{_⊕_, _⊖_, plusZero}
 use Rattle.cdouble.proofs.Steps.{exact-abs}
 use Rattle.cdouble.proofs.RoundedUp.{exact-zero, zero-fits}
 use Rattle.tolerances.specs.BandEdge.{bandStart, tooFar, stepBack, turns, bandEdge, IsBandEdge}
@@ -278,3 +278,12 @@ band-edge-law bound (fin s m e) up hb ht f o = let tol = fin s m e in finite-edg
 pub band-edge-is : (bound tol : Float) (up : Bool) {e a r : Float} → e ≡ bandStart bound tol up → a ≡ absolute (e ⊖ bound) → r ≡ cond (lt tol a) (stepBack up e) e → r ≡ bandEdge bound tol up
 unfolding bandEdge turns tooFar
 band-edge-is bound tol up {e} i j k = k ∙ ap (λ (x : Float). cond (lt tol x) (stepBack up e) e) j ∙ ap (λ (x : Float). cond (lt tol (absolute (x ⊖ bound))) (stepBack up x) x) i
+
+-- ---- its answer is a double, at every input
+pub band-edge-fits : (bound tol : Float) (up : Bool) → T (fits binary64 (bandEdge bound tol up))
+unfolding bandEdge turns stepBack bandStart
+band-edge-fits bound tol up =
+    let start = bandStart bound tol up in
+    cond-fits binary64 (tooFar bound tol start) (stepBack up start) start
+    (cond-fits binary64 up (nextDown start) (nextUp start) (next-down-fits start) (next-up-fits start))
+    (cond-fits binary64 up (bound ⊕ tol) (bound ⊖ tol) (add-fits binary64 bound tol) (sub-fits binary64 bound tol))
