@@ -4,7 +4,7 @@ use mathlib.Core.Path.{_≡_, refl, sym, ap, _∙_, subst}
 use mathlib.Core.Logic.{inl, inr}
 use mathlib.Core.Bool.{Bool, true, false, not, cond}
 use Prim.Native.Nat.{ℕ, _^_, _<_, zero-le}
-use native.Mathlib.Nat.{le-refl, mul-le-mul-right}
+use native.Mathlib.Nat.{mul-le-mul-right}
 use native.Mathlib.Omega.{arith}
 use lib.IntN.{ℤ, pos, negℤ, _+ℤ_, _*ℤ_, negℤ-+ℤ, *ℤ-comm}
 use lib.Dec.{T}
@@ -19,7 +19,8 @@ use Rattle.exact.proofs.Difference.{all, differences}
 use Rattle.exact.proofs.Order.{≼-or-≺, ≼-of-≺, ≺-not-≼, pos-≼, *-mono}
 use Rattle.exact.proofs.Values.{exact-neg, exactAt-neg, finite-neg, neg-neg}
 use Rattle.exact.proofs.Compare.{lt-to, lt-of, same-bool}
-use Rattle.exact.proofs.Nearest.{toNearest-mono, toNearest-neg, toNearest-same}
+use Rattle.exact.proofs.Nearest.{toNearest-mono, toNearest-neg}
+use Rattle.exact.proofs.Between.{nearest-own}
 use Rattle.doubles.specs.Directed.{IsUp, IsDown}
 use Rattle.doubles.specs.Neighbours.{nextUp, nextDown}
 use Rattle.doubles.proofs.Mirror.{down-of-up}
@@ -27,7 +28,6 @@ use Rattle.doubles.proofs.Next.{next-up-law, next-mirror}
 use Rattle.cdouble.specs.Compensated.{plusZero, upper, lower, negated}
 use Rattle.cdouble.specs.Exactness.{IsExact}
 use Rattle.cdouble.specs.declared.CDouble.{CDouble}
-use Rattle.cdouble.proofs.Steps.{known-exactly}
 
 finite-no-nan : (d : Float) → T (finite d) → T (not (isNan d))
 unfolding isNan
@@ -40,15 +40,12 @@ finite-no-infinity d s f e = subst (λ (x : Float). T (finite x)) e f
 
 -- ---- z / 2 ^ l units rounded to the finite double d
 module _ (l : ℕ) (z : ℤ) (d : Float) (f : T (finite d)) (is : exact d ≡ toNearest l z) where
-  same-value : (x : Float) → T (finite x) → T (fits binary64 x) → toNearest l (exactAt l x) ≡ exact x
-  same-value x fx hx = toNearest-same l (exact x) (known-exactly (magnitude x) x fx hx (le-refl (magnitude x)) .digits)
-
   -- a double on one side of the number is on that side of d, or d itself
   above-rounded : (x : Float) → T (finite x) → T (fits binary64 x) → z ≼ exactAt l x → exact d ≼ exact x
-  above-rounded x fx hx o = rw (is, sym (same-value x fx hx)) (toNearest-mono l z (exactAt l x) o)
+  above-rounded x fx hx o = rw (is, sym (nearest-own l x fx hx)) (toNearest-mono l z (exactAt l x) o)
 
   below-rounded : (x : Float) → T (finite x) → T (fits binary64 x) → exactAt l x ≼ z → exact x ≼ exact d
-  below-rounded x fx hx o = rw (is, sym (same-value x fx hx)) (toNearest-mono l (exactAt l x) z o)
+  below-rounded x fx hx o = rw (is, sym (nearest-own l x fx hx)) (toNearest-mono l (exactAt l x) z o)
 
   -- the number is not above d: d is least
   rounded-up : T (fits binary64 d) → z ≼ exactAt l d → IsUp l z d

@@ -8,12 +8,12 @@ use lib.Pow.{pow-pos, pow-lt}
 use lib.Ieee.{Float, binary64, fits, add, sub, mul}
 use lib.Ieee.Fits.{add-fits, sub-fits, mul-fits}
 use lib.Ieee.Scale.{finite, overflow}
-use Rattle.exact.specs.Value.{sign, magnitude, signed, exact}
+use Rattle.exact.specs.Value.{magnitude, signed, exact}
 use Rattle.exact.specs.Representable.{Representable}
 use Rattle.exact.specs.Nearest.{nearestUnits, toNearest, IsNearest}
 use Rattle.exact.proofs.Representable.{representable-zero, representable-pow}
 use Rattle.exact.proofs.Signed.{by-sign, signed-abs, signed-scale}
-use Rattle.exact.proofs.Values.{whole, exact-is}
+use Rattle.exact.proofs.Values.{whole, exact-abs}
 use Rattle.exact.proofs.Nearest.{nearest-le, nearest-whole, toNearest-signed}
 use Rattle.exact.proofs.Operations.{exactly, by-one, add-nearest, sub-nearest, mul-nearest}
 use Rattle.cdouble.proofs.Knuth.{Exactly}
@@ -33,9 +33,6 @@ known x f h = record { is-finite = f; fit = h; value = refl }
 
 pub as-value : {z w : ℤ} {x : Float} → z ≡ w → HasExact z x → HasExact w x
 as-value e v = record { is-finite = v .is-finite; fit = v .fit; value = v .value ∙ e }
-
-pub exact-abs : (x : Float) → natAbs (exact x) ≡ magnitude x
-exact-abs x = ap natAbs (exact-is x) ∙ signed-abs (sign x) (magnitude x)
 
 -- a double has 53 digits
 pub known-exactly : (k : ℕ) (x : Float) → T (finite x) → T (fits binary64 x) → magnitude x ≤ k → Exactly k (exact x)

@@ -17,14 +17,14 @@ use Rattle.exact.specs.Nearest.{nearestUnits, toNearest, IsNearest}
 use Rattle.exact.proofs.Naturals.{le-or-lt}
 use Rattle.exact.proofs.Difference.{differences}
 use Rattle.exact.proofs.Signed.{signed-abs, signed-*}
-use Rattle.exact.proofs.Values.{whole, exact-is}
+use Rattle.exact.proofs.Values.{whole, exact-is, exact-abs}
 use Rattle.exact.proofs.Nearest.{toNearest-signed}
 use Rattle.exact.proofs.Operations.{mul-nearest}
 use Rattle.cdouble.specs.declared.CDouble.{CDouble}
 use Rattle.cdouble.specs.Compensated.{_⊖_, _⊗_, split, productError, twoProduct}
 use Rattle.cdouble.specs.Exactness.{AtMost, IsZero, ProductRange, IsExact}
 use Rattle.cdouble.proofs.Product.{high64, Terms, terms, rounded-zero, terms-zero-l, terms-zero-r}
-use Rattle.cdouble.proofs.Steps.{top, HasExact, exact-abs}
+use Rattle.cdouble.proofs.Steps.{top, HasExact}
 use Rattle.cdouble.proofs.SignedSteps.{offset, offset-signed, sub-offset, mul-offset}
 use Rattle.cdouble.proofs.SplitParts.{parts, alone}
 

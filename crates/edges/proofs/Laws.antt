@@ -9,20 +9,16 @@ use borrow.Author.Tests.{ltb-false}
 use lib.IntN.{pos}
 use lib.Dec.{T, eqb, ltb}
 use lib.ListN.{length, getD}
-use lib.Ieee.{Float, nan, inf, fin, binary64, fits, isNan, lt, le, eq}
+use lib.Ieee.{Float, nan, fin, binary64, fits, isNan, lt, le, eq}
 use lib.Ieee.Bits.{is-true}
-use lib.Ieee.Fits.{cond-fits, nan-fits, inf-fits, neg-fits, add-fits, sub-fits, mul-fits}
+use lib.Ieee.Fits.{cond-fits, add-fits, mul-fits}
 use lib.Ieee.Scale.{finite}
-use Rattle.exact.specs.Value.{sign, exact}
+use Rattle.exact.specs.Value.{sign}
 use Rattle.exact.proofs.Naturals.{le-or-lt}
-use Rattle.exact.proofs.Order.{≼-refl, ≼-trans}
-use Rattle.exact.proofs.Compare.{le-no-nan, le-same, le-trans, le-exact}
+use Rattle.exact.proofs.Compare.{le-same, le-trans, le-exact}
 use Rattle.exact.proofs.Signs.{add-clear, mul-clear, exact-clear}
-use Rattle.doubles.specs.Rank.{largest}
 use Rattle.doubles.specs.Compare.{absolute}
-use Rattle.doubles.specs.Neighbours.{nextUp, nextDown}
-use Rattle.doubles.proofs.Patterns.{double-fits, finite-no-nan}
-use Rattle.doubles.proofs.Next.{next-mirror, next-up-law}
+use Rattle.doubles.proofs.Patterns.{finite-no-nan}
 use Rattle.doubles.proofs.Clear.{absolute-fits, absolute-clear}
 use Rattle.cdouble.specs.Compensated.{_⊕_, _⊖_, _⊗_, plusZero}
 use Rattle.cdouble.proofs.RoundedUp.{exact-zero, zero-fits}
@@ -34,7 +30,7 @@ use Rattle.questions.specs.Rows.{RowsLie}
 use Rattle.sheet.proofs.Accepted.{AllYes, all-yes, rows-lie}
 use Rattle.sheet.proofs.Consequences.{Plain, lengths, by-variable, by-row, range-at, low-plain, high-plain, feasibility-plain, scale-plain, product-finite, Holds, holder, one-holder, leaving-lt}
 use Rattle.tolerances.specs.Tolerances.{toward, slackMargin, slackTol}
-use Rattle.tolerances.specs.BandEdge.{bandStart, tooFar, stepBack, turns, bandEdge}
+use Rattle.tolerances.specs.BandEdge.{bandEdge}
 use Rattle.tolerances.proofs.Room.{trimmed-room-fits, trimmed-room-law, no-minus-zero}
 use Rattle.tolerances.proofs.BandEdge.{band-edge-law, band-edge-fits}
 use Rattle.edges.specs.declared.activity.Activity.{Activity}

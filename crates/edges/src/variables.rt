@@ -1,6 +1,5 @@
 //! The variables: the leaving one, those that stay on their bounds, and the edges.
 ghost use mathlib.Core.Path.{_≡_};
-ghost use mathlib.Core.Bool.{Bool};
 ghost use Prim.Native.Nat.{_≤_, _<_};
 ghost use lib.ListN.{length};
 ghost use Rattle.tolerances.specs.Tolerances.{toward};

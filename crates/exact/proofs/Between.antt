@@ -11,15 +11,15 @@ use lib.Pow.{pow-pos}
 use lib.Ieee.{Float, inf, binary64, fits, neg}
 use lib.Ieee.Fits.{neg-fits}
 use lib.Ieee.Scale.{finite, overflow}
-use Rattle.exact.specs.Value.{sign, magnitude, exact, exactAt}
+use Rattle.exact.specs.Value.{sign, exact, exactAt}
 use Rattle.exact.specs.Integers.{_≼_}
 use Rattle.exact.specs.Nearest.{nearestUnits, toNearest, below-zero, IsNearest}
 use Rattle.exact.specs.Representable.{Representable}
 use Rattle.exact.proofs.Naturals.{le-or-lt}
 use Rattle.exact.proofs.Difference.{all, differences}
 use Rattle.exact.proofs.Order.{neg-≼}
-use Rattle.exact.proofs.Signed.{signed-abs, natAbs-dif}
-use Rattle.exact.proofs.Values.{whole, exact-is, exact-neg, exactAt-neg, finite-neg, neg-neg}
+use Rattle.exact.proofs.Signed.{natAbs-dif}
+use Rattle.exact.proofs.Values.{whole, exact-abs, exact-neg, exactAt-neg, finite-neg, neg-neg}
 use Rattle.exact.proofs.Nearest.{nearest-zero, toNearest-neg, toNearest-mono, toNearest-same}
 use Rattle.exact.proofs.Operations.{by-one}
 
@@ -44,12 +44,9 @@ nearest-neg {l} {z} {d} N = record {
     size-is : natAbs (toNearest l (negℤ z)) ≡ natAbs (toNearest l z)
     size-is = ap natAbs (toNearest-neg l z) ∙ abs-neg (toNearest l z)
 
--- ---- beside a double
-magnitude-is : (x : Float) → natAbs (exact x) ≡ magnitude x
-magnitude-is x = ap natAbs (exact-is x) ∙ signed-abs (sign x) (magnitude x)
-
-stays : (l : ℕ) (x : Float) → T (finite x) → T (fits binary64 x) → toNearest l (exactAt l x) ≡ exact x
-stays l x f h = toNearest-same l (exact x) (subst (λ (n : ℕ). Representable 53 n) (sym (magnitude-is x)) (whole x f h .representable))
+-- ---- beside a double; a double rounds to itself
+pub nearest-own : (l : ℕ) (x : Float) → T (finite x) → T (fits binary64 x) → toNearest l (exactAt l x) ≡ exact x
+nearest-own l x f h = toNearest-same l (exact x) (subst (λ (n : ℕ). Representable 53 n) (sym (exact-abs x)) (whole x f h .representable))
 
 -- a negative number that is not below w is no larger
 no-larger : (l n : ℕ) (w : ℤ) → w ≼ toNearest l (negsuc n) → natAbs (toNearest l (negsuc n)) ≤ natAbs w
@@ -69,11 +66,11 @@ module _ {l : ℕ} {z : ℤ} {d : Float} (N : IsNearest l z d) where
       ]
     where
       above : exact x ≼ toNearest l z
-      above = subst (λ (w : ℤ). w ≼ toNearest l z) (stays l x f h) (toNearest-mono l (exactAt l x) z o)
+      above = subst (λ (w : ℤ). w ≼ toNearest l z) (nearest-own l x f h) (toNearest-mono l (exactAt l x) z o)
 
       not-negative : (z : ℤ) → exact x ≼ toNearest l z → overflow binary64 ≤ natAbs (toNearest l z) → below-zero z ≡ false
       not-negative (pos n) i k = refl
-      not-negative (negsuc n) i k = absurd (not-le-of-lt (whole x f h .small) (le-trans k (le-trans (no-larger l n (exact x) i) (le-of-eq (magnitude-is x)))))
+      not-negative (negsuc n) i k = absurd (not-le-of-lt (whole x f h .small) (le-trans k (le-trans (no-larger l n (exact x) i) (le-of-eq (exact-abs x)))))
 
 -- in the mirror: not above y
 pub nearest-below : {l : ℕ} {z : ℤ} {d : Float} → IsNearest l z d → (y : Float) → T (finite y) → T (fits binary64 y) → z ≼ exactAt l y → (T (finite d) × (exact d ≼ exact y)) ⊎ (d ≡ inf true)

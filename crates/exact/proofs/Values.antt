@@ -5,7 +5,7 @@ use mathlib.Core.Bool.{Bool, true, false, _&&_}
 use Prim.Native.Nat.{ℕ, zero, suc, _+_, _-_, _*_, _/_, _%_, _^_, _≤_, _<_}
 use native.Mathlib.Nat.{lt-of-lt-of-le, lt-of-le-of-lt, lt-of-mul-lt-mul-right, le-of-eq, not-le-of-lt, mul-assoc, mul-comm, mul-one, mul-right-comm, mul-div-cancel, mul-lt-mul-of-pos-right, zero-mul, dvd-mul-left}
 use native.Mathlib.Omega.{arith}
-use lib.IntN.{ℤ, pos, negsuc, negℤ, _*ℤ_}
+use lib.IntN.{ℤ, pos, negsuc, negℤ, natAbs, _*ℤ_}
 use lib.Dec.{T, leb, ltb, eqb, ltb→lt, leb→le}
 use lib.Pow.{pow-add, pow-pos, pow-lt, shl-lt}
 use lib.Ieee.{Float, nan, inf, fin, binary64, up, down, neg, fits}
@@ -17,7 +17,7 @@ use Rattle.exact.proofs.Naturals.{le-or-lt}
 use Rattle.exact.specs.Representable.{Representable}
 use Rattle.exact.proofs.Representable.{representable-zero}
 use Rattle.exact.proofs.Ring.{neg-*l}
-use Rattle.exact.proofs.Signed.{signed-neg, signed-scale}
+use Rattle.exact.proofs.Signed.{signed-neg, signed-abs, signed-scale}
 
 -- ---- a value is known by its sign and its number of units
 pub value-of : (x : Float) (s : Bool) (n : ℕ) → HasValue x s n (2 ^ 1074) → T (finite x) × (sign x ≡ s) × (magnitude x ≡ n)
@@ -29,6 +29,10 @@ value-of (fin t m e) s n h = (tt, h .0, ap (λ (x : ℕ). x / down e) (h .1) ∙
 pub exact-is : (x : Float) → exact x ≡ signed (sign x) (magnitude x)
 unfolding exact
 exact-is x = refl
+
+-- without its sign it is the magnitude
+pub exact-abs : (x : Float) → natAbs (exact x) ≡ magnitude x
+exact-abs x = ap natAbs (exact-is x) ∙ signed-abs (sign x) (magnitude x)
 
 pub exact-of : (x : Float) (s : Bool) (n : ℕ) → HasValue x s n (2 ^ 1074) → T (finite x) × (exact x ≡ signed s n)
 exact-of x s n h =

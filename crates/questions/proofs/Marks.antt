@@ -1,17 +1,16 @@
 -- The pass that marks each widened item that it meets, on lists: a mark is set where the item was met. Assumes nothing.
 use native.Mathlib.Omega.{arith}
-use native.Mathlib.Nat.{le-antisymm}
 use native.Mathlib.Numerals.{add-one}
-use mathlib.Core.Path.{_≡_, refl, ap, sym, _∙_, subst}
-use mathlib.Core.Bool.{Bool, true, false, not, cond, _&&_, _||_, Bool·beq, and-true, and-false, or-true, or-false}
+use mathlib.Core.Path.{_≡_, refl, ap, sym, _∙_}
+use mathlib.Core.Bool.{Bool, true, false, not, _&&_, _||_, Bool·beq, and-true, and-false, or-true, or-false}
 use mathlib.Core.List.{List}
-use Prim.Native.Nat.{ℕ, zero, suc, _+_, _*_, _^_, _<_, _≤_}
+use Prim.Native.Nat.{ℕ, _+_, _*_, _<_, _≤_}
 use borrow.Author.Tests.{eqb-true, eqb-false, ltb-true, not-true}
 use lib.Dec.{eqb, ltb}
 use lib.ListN.{length, getD, set, length-set}
 use lib.Seq.{getD-set-same, getD-set-other}
 use Rattle.questions.specs.Rows.{isSet}
-use Rattle.questions.specs.Places.{allBelow, widenedAmong}
+use Rattle.questions.specs.Places.{widenedAmong}
 use Rattle.questions.specs.Questions.{itemFineAt, widenedFine}
 use Rattle.questions.specs.Tallies.{markOf, Unmarked}
 use Rattle.questions.proofs.All.{Passed}

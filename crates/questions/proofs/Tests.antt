@@ -3,11 +3,11 @@ use native.Mathlib.Omega.{arith}
 use mathlib.Core.Path.{_≡_, refl, ap, sym, _∙_, subst}
 use mathlib.Core.Bool.{Bool, true, false, not, _&&_, _||_}
 use mathlib.Core.List.{List, [], _∷_}
-use Prim.Native.Nat.{ℕ, zero, suc, _+_, _-_, _*_, _^_, _<_, _≤_}
+use Prim.Native.Nat.{ℕ, _+_, _-_, _*_, _^_}
 use borrow.Author.Tests.{ne-eqb, leb-true, leb-false, le-ltb, lt-ltb, le-leb}
 use lib.Dec.{T, eqb, ltb, leb}
 use lib.ListN.{length, getD, set}
-use lib.Ieee.{Float, nan, binary64, fits, toBits, eq}
+use lib.Ieee.{Float, binary64, fits, toBits, eq}
 use lib.Ieee.Scale.{finite}
 use Rattle.exact.specs.Value.{sign}
 use Rattle.doubles.proofs.Patterns.{finite-no-nan, rankOf, pattern, sign-test}

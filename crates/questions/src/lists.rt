@@ -1,6 +1,5 @@
 //! Questions over all places of one list, or of two of one length.
 ghost use mathlib.Core.Path.{_≡_};
-ghost use mathlib.Core.Bool.{Bool};
 ghost use lib.ListN.{length};
 ghost use Rattle.questions.specs.Places.{allBelow};
 ghost use Rattle.questions.specs.Questions.{allFinite, allPlain, boundsFine, plain, productFiniteAt, rangeFine, tolerancesFine};

@@ -8,7 +8,7 @@ use Prim.Native.Nat.{ℕ, zero, suc, _+_, _≤_, _<_}
 use borrow.Author.Tests.{eqb-true, ltb-true, not-true}
 use lib.Dec.{T}
 use lib.ListN.{length, getD}
-use lib.Ieee.{Float, nan, inf, fin, binary64, isNan, mul, lt, le, eq, ne}
+use lib.Ieee.{Float, nan, inf, binary64, isNan, mul, le, eq, ne}
 use lib.Ieee.Scale.{finite}
 use Rattle.exact.proofs.Compare.{le-no-nan}
 use Rattle.exact.specs.Value.{sign}

@@ -16,7 +16,7 @@ use Rattle.exact.specs.Nearest.{IsNearest}
 use Rattle.exact.proofs.Difference.{all, differences}
 use Rattle.exact.proofs.Order.{≼-or-≺, ≼-of-≺, ≺-not-≼, neg-≼}
 use Rattle.exact.proofs.Signed.{natAbs-dif}
-use Rattle.exact.proofs.Values.{exact-neg, finite-neg, neg-neg}
+use Rattle.exact.proofs.Values.{exact-abs, exact-neg, finite-neg, neg-neg}
 use Rattle.exact.proofs.Compare.{lt-to, le-exact, le-top, le-bottom}
 use Rattle.exact.proofs.Operations.{add-nearest, sub-nearest}
 use Rattle.exact.proofs.Between.{nearest-neg, units-above, units-between}
@@ -29,7 +29,6 @@ use Rattle.doubles.proofs.Next.{next-down-law, next-mirror, next-up-fits, next-
 use Rattle.doubles.proofs.Choice.{absolute-exact}
 use Rattle.doubles.proofs.Clear.{finite-absolute, absolute-fits}
 use Rattle.cdouble.specs.Compensated.{_⊕_, _⊖_, plusZero}
-use Rattle.cdouble.proofs.Steps.{exact-abs}
 use Rattle.cdouble.proofs.RoundedUp.{exact-zero, zero-fits}
 use Rattle.tolerances.specs.BandEdge.{bandStart, tooFar, stepBack, turns, bandEdge, IsBandEdge}
 

@@ -1,6 +1,5 @@
 -- `edge` meets its contract. Assumes nothing.
 use borrow.Author.Needs.{needs}
-use borrow.Author.Tests.{eq-eqb, ne-eqb}
 use Rattle.edges.specs.Model.{Model, model}
 use Rattle.edges.proofs.Tests.{edge-infinite, edge-leaving, edge-on-bounds, edge-widened}
 use Rattle.edges.proofs.variables.edge.Statement.{statement}

@@ -1,6 +1,5 @@
 -- `basis_fine` meets its contract. Assumes nothing.
 use borrow.Author.Needs.{needs}
-use native.Mathlib.Omega.{arith}
 use Rattle.questions.proofs.Tallies.{some-beyond, none-beyond, then-held, getD-replicate}
 use Rattle.questions.proofs.basis.basis_fine.Statement.{statement}
 use Rattle.questions.proofs.basis.basis_fine.Tie as tie

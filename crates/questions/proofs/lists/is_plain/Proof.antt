@@ -1,6 +1,5 @@
 -- `is_plain` meets its contract. Assumes nothing.
 use borrow.Author.Needs.{needs}
-use Rattle.questions.specs.Questions.{plain}
 use Rattle.doubles.proofs.Tests.{fit}
 use Rattle.doubles.proofs.Patterns.{finite-no-nan}
 use Rattle.questions.proofs.Tests.{plain-finite, plain-infinite}

@@ -1,5 +1,4 @@
 -- `range_fine` meets its contract. Assumes nothing.
-use borrow.Author.Needs.{needs}
 use mathlib.Core.Path.{refl}
 use lib.Ieee.{ofBits, neg, nanBits}
 use Rattle.questions.specs.Questions.{rangeFine}

@@ -1,6 +1,5 @@
 -- `row_columns_fine` meets its contract. Assumes nothing.
 use borrow.Author.Needs.{needs}
-use Rattle.questions.specs.Questions.{rowColumnsFine}
 use Rattle.questions.proofs.Tests.{no-columns, some-columns}
 use Rattle.questions.proofs.rows.row_columns_fine.Statement.{statement}
 use Rattle.questions.proofs.rows.row_columns_fine.Tie as tie

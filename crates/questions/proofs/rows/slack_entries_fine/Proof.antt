@@ -2,7 +2,6 @@
 use borrow.Author.Needs.{needs}
 use native.Mathlib.Omega.{arith}
 use Prim.Native.Nat.{_-_}
-use lib.ListN.{length}
 use Rattle.questions.specs.Questions.{slackEntryFineAt}
 use Rattle.questions.specs.Rows.{part}
 use Rattle.questions.proofs.All.{Passed, first, next, stop, done}

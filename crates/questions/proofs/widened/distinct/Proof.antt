@@ -3,7 +3,6 @@ use borrow.Author.Needs.{needs}
 use borrow.Author.Tests.{not-false, ltb-true}
 use native.Mathlib.Omega.{arith}
 use mathlib.Core.Path.{sym, subst}
-use mathlib.Core.Path.{refl}
 use Prim.Native.Nat.{ℕ, _-_, _<_}
 use lib.ListN.{length, getD}
 use Rattle.questions.proofs.Marks.{Marked, first, stop-beyond, has-mark, stop-twice, next, done}

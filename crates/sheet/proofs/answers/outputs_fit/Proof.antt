@@ -1,5 +1,4 @@
 -- `outputs_fit` meets its contract. Assumes nothing.
-use borrow.Author.Needs.{needs}
 use mathlib.Core.Path.{refl}
 use Rattle.sheet.specs.Lengths.{outputsFit}
 use Rattle.sheet.proofs.answers.outputs_fit.Statement.{statement}

@@ -1,5 +1,4 @@
 -- `sizes_fine` meets its contract. Assumes nothing.
-use borrow.Author.Needs.{needs}
 use mathlib.Core.Path.{refl}
 use Rattle.questions.specs.Questions.{sizesFine}
 use Rattle.sheet.proofs.answers.sizes_fine.Statement.{statement}

@@ -1,5 +1,4 @@
 -- `variables_fit` meets its contract. Assumes nothing.
-use borrow.Author.Needs.{needs}
 use mathlib.Core.Path.{refl}
 use Rattle.sheet.specs.Lengths.{variablesFit}
 use Rattle.sheet.proofs.answers.variables_fit.Statement.{statement}
