@@ -1,5 +1,6 @@
 -- `basis_fine` meets its contract. Assumes nothing.
 use borrow.Author.Needs.{needs}
+use Rattle.questions.specs.Limits.{mostRows}
 use Rattle.questions.proofs.Tallies.{some-beyond, none-beyond, then-held, getD-replicate}
 use Rattle.questions.proofs.basis.basis_fine.Statement.{statement}
 use Rattle.questions.proofs.basis.basis_fine.Tie as tie
@@ -14,7 +15,7 @@ slice-aggregate-held-once : tie.Need-slice-aggregate-held-once
 slice-aggregate-held-once c = search needs
 
 held-once-requires : tie.Need-held-once-requires
-held-once-requires c κs = record { same = c .before .before .before .before .before .pre .1; fine = none-beyond (c .before .before .before .before .before .args .rows) (c .before .before .before .before .before .args .basic .now) (c .before .before .before .before .before .args .places .now) (c .before .before .places-fine .ensures) (c .before .if1 .left); room = c .before .before .before .before .before .pre .0; zeros = λ p. getD-replicate 128 0 p }
+held-once-requires c κs = record { same = c .before .before .before .before .before .pre .1; fine = none-beyond (c .before .before .before .before .before .args .rows) (c .before .before .before .before .before .args .basic .now) (c .before .before .before .before .before .args .places .now) (c .before .before .places-fine .ensures) (c .before .if1 .left); room = c .before .before .before .before .before .pre .0; zeros = λ p. getD-replicate mostRows 0 p }
 
 returns-2 : tie.Need-returns-2
 returns-2 c = then-held (c .before .before .before .before .before .before .before .args .rows) (c .before .before .before .before .before .before .before .args .basic .now) (c .before .before .before .before .before .before .before .args .places .now) (c .before .before .before .before .places-fine .ensures) (c .before .before .before .if1 .left) (c .before .held-once .ensures)

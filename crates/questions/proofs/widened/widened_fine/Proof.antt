@@ -2,6 +2,8 @@
 use borrow.Author.Needs.{needs}
 use native.Mathlib.Omega.{arith}
 use mathlib.Core.Bool.{false}
+use Prim.Native.Nat.{_+_, _*_}
+use Rattle.questions.specs.Limits.{mostRows, mostStructurals}
 use Rattle.questions.proofs.Tallies.{getD-replicate}
 use Rattle.questions.proofs.widened.widened_fine.Statement.{statement}
 use Rattle.questions.proofs.widened.widened_fine.Tie as tie
@@ -10,7 +12,7 @@ slice-aggregate-distinct : tie.Need-slice-aggregate-distinct
 slice-aggregate-distinct c = search needs
 
 distinct-requires : tie.Need-distinct-requires
-distinct-requires c κs = record { same = c .before .before .before .pre .1; room = omega (arith, c .before .before .before .pre .0); small = omega (arith, c .before .before .before .pre .0); clear = λ m. getD-replicate 768 false m }
+distinct-requires c κs = record { same = c .before .before .before .pre .1; room = omega (arith, c .before .before .before .pre .0); small = omega (arith, c .before .before .before .pre .0); clear = λ m. getD-replicate (2 * (mostStructurals + mostRows)) false m }
 
 returns : tie.Need-returns
 returns c = search needs
