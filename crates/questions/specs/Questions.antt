@@ -107,4 +107,6 @@ itemFineAt count vars ups k = ltb (getD vars k 0) count && not (widenedAmong var
 unfoldable pub widenedFine : ℕ → List ℕ → List ℕ → Bool
 widenedFine count vars ups = allBelow (length vars) (itemFineAt count vars ups)
 
--- ---- 12. "Is the leaving row below the row count?" is `ltb`
+-- ---- 12. "Is the leaving row below the row count?"
+unfoldable pub leavingRowFine : ℕ → ℕ → Bool
+leavingRowFine rows leavingRow = ltb leavingRow rows

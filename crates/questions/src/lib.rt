@@ -8,6 +8,7 @@ mod widened;
 pub use basis::basis_fine;
 pub use lists::all_finite;
 pub use lists::bounds_fine;
+pub use lists::leaving_row_fine;
 pub use lists::tolerances_fine;
 pub use rows::columns_fine;
 pub use rows::entries_fine;

@@ -2,7 +2,7 @@
 ghost use mathlib.Core.Path.{_≡_};
 ghost use lib.ListN.{length};
 ghost use Rattle.questions.specs.Places.{allBelow};
-ghost use Rattle.questions.specs.Questions.{allFinite, allPlain, boundsFine, plain, productFiniteAt, rangeFine, tolerancesFine};
+ghost use Rattle.questions.specs.Questions.{allFinite, allPlain, boundsFine, leavingRowFine, plain, productFiniteAt, rangeFine, tolerancesFine};
 use doubles::is_finite;
 
 /// The least pattern with the sign set, that of -0.
@@ -96,4 +96,11 @@ pub fn bounds_fine(mins: &[f64], maxs: &[f64]) -> bool
         v += 1;
     }
     true
+}
+
+/// The twelfth question.
+pub fn leaving_row_fine(rows: usize, leaving_row: usize) -> bool
+    ensures { λ r. ⌜ r ≡ leavingRowFine rows «leaving_row» ⌝ }
+{
+    leaving_row < rows
 }

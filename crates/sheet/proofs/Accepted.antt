@@ -5,15 +5,15 @@ use mathlib.Core.Bool.{Bool, true, false}
 use mathlib.Core.List.{List, [], _∷_}
 use Prim.Native.Nat.{ℕ, zero, suc, _+_, _-_, _≤_, _<_}
 use borrow.Author.Tests.{eqb-true, leb-true}
-use lib.Dec.{eqb, leb, ltb}
+use lib.Dec.{eqb, leb}
 use lib.Ieee.{Float}
 use lib.ListN.{length, getD}
 use Rattle.questions.specs.Limits.{mostRows, mostStructurals, mostEntries}
 use Rattle.sheet.specs.Sheet.{Sheet, variables}
 use Rattle.questions.specs.Places.{allBelow}
 use Rattle.questions.specs.Rows.{RowsLie}
-use Rattle.sheet.specs.Lengths.{rowsFit, variablesFit, outputsFit, lengthsFine}
-use Rattle.questions.specs.Questions.{sizesFine, risesAt, startsFine, columnsFine, entriesFine, boundsFine, tolerancesFine, basisFine, allFinite, widenedFine}
+use Rattle.sheet.specs.Lengths.{rowsFit, variablesFit, outputsFit, lengthsFit, lengthsFine}
+use Rattle.questions.specs.Questions.{sizesFine, risesAt, startsFine, columnsFine, entriesFine, boundsFine, tolerancesFine, basisFine, allFinite, widenedFine, leavingRowFine}
 use Rattle.sheet.specs.Answers.{ask, firstNo, Accepted}
 use Rattle.questions.proofs.All.{Each, each, all-at}
 
@@ -96,7 +96,7 @@ pub record LengthsHold (s : Sheet) : Type 0 where
   pub outputs-fit : outputsFit (variables s) (s .outputs) ≡ true
 
 pub lengths-hold : (s : Sheet) → lengthsFine s ≡ true → LengthsHold s
-unfolding lengthsFine
+unfolding lengthsFit
 lengths-hold s e =
     let rowsPart = rowsFit (s .rows) (s .entryCount) (s .starts) (s .columns) (s .entries) (s .rightSides) (s .scales) (s .rhoHi) (s .rhoLo) (s .second) in
     let variablesPart = variablesFit (variables s) (s .mins) (s .maxs) (s .lowTolerances) (s .highTolerances) (s .basic) (s .places) (s .values) in
@@ -138,7 +138,7 @@ pub record AllYes (s : Sheet) : Type 0 where
   pub basis-fine : basisFine (s .rows) (s .basic) (s .places) ≡ true
   pub values-fine : allFinite (s .values) ≡ true
   pub widened-fine : widenedFine (variables s) (s .widenedVariables) (s .widenedUps) ≡ true
-  pub leaving-fine : ltb (s .leavingRow) (s .rows) ≡ true
+  pub leaving-fine : leavingRowFine (s .rows) (s .leavingRow) ≡ true
 
 -- no question but the first "no" gives a number
 asked : (b : Bool) (n later : ℕ) → ask b (suc n) later ≡ 0 → (b ≡ true) × (later ≡ 0)
@@ -159,7 +159,7 @@ all-yes s e =
     let a9 = asked (basisFine (s .rows) (s .basic) (s .places)) 8 _ (a8 .1) in
     let a10 = asked (allFinite (s .values)) 9 _ (a9 .1) in
     let a11 = asked (widenedFine (variables s) (s .widenedVariables) (s .widenedUps)) 10 _ (a10 .1) in
-    let a12 = asked (ltb (s .leavingRow) (s .rows)) 11 _ (a11 .1) in
+    let a12 = asked (leavingRowFine (s .rows) (s .leavingRow)) 11 _ (a11 .1) in
     record {
       sizes-fine = a2 .0;
       lengths-fine = a3 .0;

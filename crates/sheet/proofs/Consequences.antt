@@ -15,7 +15,7 @@ use Rattle.exact.specs.Value.{sign}
 use Rattle.exact.proofs.Naturals.{le-or-lt}
 use Rattle.sheet.specs.Sheet.{Sheet, variables}
 use Rattle.questions.specs.Places.{allBelow, holdsPlace, holders}
-use Rattle.questions.specs.Questions.{finiteAt, allFinite, slackEntryFineAt, entriesFine, rangeFine, rangeFineAt, boundsFine, plain, plainAt, allPlain, productFiniteAt, tolerancesFine, placeFineAt, heldOnceAt, basisFine}
+use Rattle.questions.specs.Questions.{finiteAt, allFinite, slackEntryFineAt, entriesFine, rangeFine, rangeFineAt, boundsFine, plain, plainAt, allPlain, productFiniteAt, tolerancesFine, placeFineAt, heldOnceAt, basisFine, leavingRowFine}
 use Rattle.questions.proofs.All.{Each, each, and-left, and-right, all-at}
 use Rattle.questions.proofs.Tests.{passes}
 use Rattle.sheet.proofs.Accepted.{RowsHold, VariablesHold, LengthsHold, lengths-hold, AllYes}
@@ -176,4 +176,5 @@ module _ (s : Sheet) (all : AllYes s) where
 
   -- 12: the leaving row
   pub leaving-lt : s .leavingRow < s .rows
+  unfolding leavingRowFine
   leaving-lt = ltb-true (s .leavingRow) (s .rows) (all .leaving-fine)

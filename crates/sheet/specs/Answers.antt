@@ -2,12 +2,11 @@
 use mathlib.Core.Path.{_≡_}
 use mathlib.Core.Bool.{Bool, true, false}
 use Prim.Native.Nat.{ℕ}
-use lib.Dec.{ltb}
 use Rattle.sheet.specs.declared.answers.Refusal.{Refusal}
 use Rattle.sheet.specs.declared.answers.Refusal.the-variants.{None, Sizes, Lengths, RowStarts, Columns, Entries, Bounds, Tolerances, Basis, Values, Widened, LeavingRow}
 use Rattle.sheet.specs.Sheet.{Sheet, variables}
 use Rattle.sheet.specs.Lengths.{lengthsFine}
-use Rattle.questions.specs.Questions.{sizesFine, startsFine, columnsFine, allFinite, entriesFine, boundsFine, tolerancesFine, basisFine, widenedFine}
+use Rattle.questions.specs.Questions.{sizesFine, startsFine, columnsFine, allFinite, entriesFine, boundsFine, tolerancesFine, basisFine, widenedFine, leavingRowFine}
 
 -- 01's number of each answer, 0 where no question refuses
 abbrev pub numberOf : Refusal → ℕ
@@ -42,7 +41,7 @@ firstNo s =
     (ask (basisFine (s .rows) (s .basic) (s .places)) 9
     (ask (allFinite (s .values)) 10
     (ask (widenedFine (variables s) (s .widenedVariables) (s .widenedUps)) 11
-    (ask (ltb (s .leavingRow) (s .rows)) 12
+    (ask (leavingRowFine (s .rows) (s .leavingRow)) 12
     0))))))))))
 
 -- "An accepted sheet … is one that no question refuses"

@@ -5,8 +5,9 @@ use Prim.Native.Nat.{ℕ, _+_}
 use lib.Dec.{leb, eqb}
 use lib.ListN.{length}
 use lib.Ieee.{Float}
+use Rattle.sheet.specs.declared.answers.Sizes.{Sizes}
 use Rattle.sheet.specs.declared.answers.Outputs.{Outputs}
-use Rattle.sheet.specs.Sheet.{Sheet, variables}
+use Rattle.sheet.specs.Sheet.{Sheet, sizesOf}
 
 -- ---- 3. "Does each slice have the length these need, …, second corrections … also when unchecked", those that go by rows and entries
 unfoldable pub rowsFit : ℕ → ℕ → List ℕ → List ℕ → List Float → List Float → List Float → List Float → List Float → List Float → Bool
@@ -41,10 +42,17 @@ outputsFit count outputs =
     && leb count (outputs .errors)
 
 -- all slices; each widened item has its side
-unfoldable pub lengthsFine : Sheet → Bool
+unfoldable pub lengthsFit : Sizes → Outputs → List ℕ → List ℕ → List Float → List Float → List Float → List ℕ → List Float → List Float → List Float → List Float → List ℕ → List ℕ → List Float → List ℕ → List ℕ → List Float → List Float → List Float → Bool
+lengthsFit sizes outputs starts columns entries rightSides scales integer mins maxs lowTolerances highTolerances basic places values widenedVariables widenedUps rhoHi rhoLo second =
+    let count = sizes .structurals + sizes .rows in
+    rowsFit (sizes .rows) (sizes .entries) starts columns entries rightSides scales rhoHi rhoLo second
+    && variablesFit count mins maxs lowTolerances highTolerances basic places values
+    && eqb (length integer) (sizes .structurals)
+    && eqb (length widenedUps) (length widenedVariables)
+    && outputsFit count outputs
+
+-- of a sheet
+abbrev pub lengthsFine : Sheet → Bool
 lengthsFine s =
-    rowsFit (s .rows) (s .entryCount) (s .starts) (s .columns) (s .entries) (s .rightSides) (s .scales) (s .rhoHi) (s .rhoLo) (s .second)
-    && variablesFit (variables s) (s .mins) (s .maxs) (s .lowTolerances) (s .highTolerances) (s .basic) (s .places) (s .values)
-    && eqb (length (s .integer)) (s .structurals)
-    && eqb (length (s .widenedUps)) (length (s .widenedVariables))
-    && outputsFit (variables s) (s .outputs)
+    lengthsFit (sizesOf s) (s .outputs) (s .starts) (s .columns) (s .entries) (s .rightSides) (s .scales) (s .integer) (s .mins) (s .maxs)
+    (s .lowTolerances) (s .highTolerances) (s .basic) (s .places) (s .values) (s .widenedVariables) (s .widenedUps) (s .rhoHi) (s .rhoLo) (s .second)

@@ -78,6 +78,10 @@ sheet sizes feasibility checked leavingRow leavingUp outputs starts columns entr
       outputs = outputs;
     }
 
+-- its sizes
+abbrev pub sizesOf : Sheet → Sizes
+sizesOf s = record { rows = s .rows; structurals = s .structurals; entries = s .entryCount }
+
 -- "Variables here include the slacks"
 abbrev pub variables : Sheet → ℕ
 variables s = s .structurals + s .rows

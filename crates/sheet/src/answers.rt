@@ -2,8 +2,8 @@
 ghost use mathlib.Core.Path.{_≡_};
 ghost use Prim.Native.Nat.{_≤_};
 ghost use Rattle.sheet.specs.Sheet.{sheet};
-ghost use Rattle.questions.specs.Limits.{mostRows};
-ghost use Rattle.sheet.specs.Lengths.{outputsFit, rowsFit, variablesFit};
+ghost use Rattle.questions.specs.Limits.{mostRows, mostStructurals};
+ghost use Rattle.sheet.specs.Lengths.{lengthsFit, outputsFit, rowsFit, variablesFit};
 ghost use Rattle.questions.specs.Questions.{sizesFine};
 ghost use Rattle.sheet.specs.Answers.{firstNo, numberOf};
 use questions::MOST_ENTRIES;
@@ -14,6 +14,7 @@ use questions::basis_fine;
 use questions::bounds_fine;
 use questions::columns_fine;
 use questions::entries_fine;
+use questions::leaving_row_fine;
 use questions::starts_fine;
 use questions::tolerances_fine;
 use questions::widened_fine;
@@ -139,6 +140,63 @@ fn outputs_fit(count: usize, outputs: Outputs) -> bool
         & (count <= outputs.errors)
 }
 
+/// The third question.
+fn lengths_fine(
+    sizes: Sizes,
+    outputs: Outputs,
+    starts: &[usize],
+    columns: &[usize],
+    entries: &[f64],
+    right_sides: &[f64],
+    scales: &[f64],
+    integer: &[u8],
+    mins: &[f64],
+    maxs: &[f64],
+    low_tolerances: &[f64],
+    high_tolerances: &[f64],
+    basic: &[u8],
+    places: &[usize],
+    values: &[f64],
+    widened_vars: &[usize],
+    widened_ups: &[u8],
+    rho_hi: &[f64],
+    rho_lo: &[f64],
+    second: &[f64],
+) -> bool
+    requires { ⌜ (sizes .rows ≤ mostRows) × (sizes .structurals ≤ mostStructurals) ⌝ }
+    ensures { λ r. ⌜ r ≡ lengthsFit sizes outputs (now (starts .entry)) (now (columns .entry)) (now (entries .entry)) (now («right_sides» .entry)) (now (scales .entry)) (now (integer .entry)) (now (mins .entry)) (now (maxs .entry)) (now («low_tolerances» .entry)) (now («high_tolerances» .entry)) (now (basic .entry)) (now (places .entry)) (now (values .entry)) (now («widened_vars» .entry)) (now («widened_ups» .entry)) (now («rho_hi» .entry)) (now («rho_lo» .entry)) (now (second .entry)) ⌝ }
+{
+    let rows = sizes.rows;
+    let structurals = sizes.structurals;
+    let entry_count = sizes.entries;
+    let count = structurals + rows;
+    rows_fit(
+        rows,
+        entry_count,
+        starts,
+        columns,
+        entries,
+        right_sides,
+        scales,
+        rho_hi,
+        rho_lo,
+        second,
+    )
+        & variables_fit(
+            count,
+            mins,
+            maxs,
+            low_tolerances,
+            high_tolerances,
+            basic,
+            places,
+            values,
+        )
+        & (integer.len() == structurals)
+        & (widened_ups.len() == widened_vars.len())
+        & outputs_fit(count, outputs)
+}
+
 /// The first question, from the second on, whose answer is no.
 pub fn first_no(
     sizes: Sizes,
@@ -174,33 +232,28 @@ pub fn first_no(
     if !sizes_fine(sizes) {
         return Refusal::Sizes;
     }
-    let count = structurals + rows;
-    let fit = rows_fit(
-        rows,
-        entry_count,
+    if !lengths_fine(
+        sizes,
+        outputs,
         starts,
         columns,
         entries,
         right_sides,
         scales,
+        integer,
+        mins,
+        maxs,
+        low_tolerances,
+        high_tolerances,
+        basic,
+        places,
+        values,
+        widened_vars,
+        widened_ups,
         rho_hi,
         rho_lo,
         second,
-    )
-        & variables_fit(
-            count,
-            mins,
-            maxs,
-            low_tolerances,
-            high_tolerances,
-            basic,
-            places,
-            values,
-        )
-        & (integer.len() == structurals)
-        & (widened_ups.len() == widened_vars.len())
-        & outputs_fit(count, outputs);
-    if !fit {
+    ) {
         return Refusal::Lengths;
     }
     if !starts_fine(rows, entry_count, starts) {
@@ -224,10 +277,10 @@ pub fn first_no(
     if !all_finite(values) {
         return Refusal::Values;
     }
-    if !widened_fine(count, widened_vars, widened_ups) {
+    if !widened_fine(structurals + rows, widened_vars, widened_ups) {
         return Refusal::Widened;
     }
-    if !(leaving_row < rows) {
+    if !leaving_row_fine(rows, leaving_row) {
         return Refusal::LeavingRow;
     }
     Refusal::None
