@@ -6,6 +6,7 @@ pub use activity::Activity;
 pub use activity::row_activity;
 pub use activity::row_terms;
 pub use activity::slack_room;
+pub use variables::bound_of;
 pub use variables::edge;
 pub use variables::holds_on_bounds;
 pub use variables::is_integer;

@@ -75,7 +75,7 @@ pub fn leaving_variable(basic: &[u8], places: &[usize], leaving_row: usize) -> u
 }
 
 /// The bound of `v` on this side.
-fn bound_of(mins: &[f64], maxs: &[f64], v: usize, up: bool) -> f64
+pub fn bound_of(mins: &[f64], maxs: &[f64], v: usize, up: bool) -> f64
     requires { ⌜ (v < length (now mins)) × (v < length (now maxs)) ⌝ }
     ensures { λ r. ⌜ r ≡ boundAt (now (mins .entry)) (now (maxs .entry)) v up ⌝ }
 {

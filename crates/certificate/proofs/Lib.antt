@@ -1,0 +1,4 @@
+pub mod Branches
+pub mod Lengths
+pub mod Turns
+pub mod Rows
