@@ -11,10 +11,10 @@ use Rattle.cdouble.specs.Compensated.{_⊕_, _⊗_, plusZero, value}
 use Rattle.doubles.specs.Compare.{absolute}
 use Rattle.questions.specs.Rows.{isSet, part}
 use Rattle.certificate.specs.declared.combine.Sums.{Sums}
-use Rattle.certificate.specs.declared.multipliers.Multiplier.{Multiplier}
-use Rattle.certificate.specs.declared.multipliers.Multiplier.the-variants.{Zeroed, Dropped, Kept}
-use Rattle.certificate.specs.declared.multipliers.Spread.{Spread}
-use Rattle.certificate.specs.declared.multipliers.Spread.the-variants.{Nothing, By}
+use Rattle.multipliers.specs.declared.weighing.Multiplier.{Multiplier}
+use Rattle.multipliers.specs.declared.weighing.Multiplier.the-variants.{Zeroed, Dropped, Kept}
+use Rattle.multipliers.specs.declared.weighing.Spread.{Spread}
+use Rattle.multipliers.specs.declared.weighing.Spread.the-variants.{Nothing, By}
 use Rattle.certificate.specs.System.{System, multiplierAt, rightSideAt, rowColumns, rowEntries}
 use Rattle.certificate.specs.Certificate.{Lists, Certificate, afterTerms, keptInto, afterErrors, spreadInto, summed, withRow, afterRows, filled}
 use Rattle.certificate.specs.Reads.{Long, Lent, RowReadable, Counted}

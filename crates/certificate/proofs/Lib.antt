@@ -2,3 +2,4 @@ pub mod Branches
 pub mod Lengths
 pub mod Turns
 pub mod Rows
+pub mod Written

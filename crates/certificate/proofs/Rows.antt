@@ -1,24 +1,19 @@
 -- One row, and the loop over the rows, on lists. Assumes nothing.
 use native.Mathlib.Omega.{arith}
 use mathlib.Core.Path.{_≡_, refl, ap, sym, subst, _∙_}
-use mathlib.Core.Bool.{Bool, true, false, cond}
 use mathlib.Core.List.{List}
 use Prim.Native.Nat.{ℕ, zero, suc, _+_, _-_, _<_, _≤_, _^_}
 use lib.ListN.{length, getD}
-use lib.Seq.{getD-set-same, getD-set-other}
 use lib.Ieee.{Float}
-use Rattle.exact.proofs.Naturals.{le-or-lt}
-use mathlib.Core.Logic.{inl, inr}
-use Rattle.cdouble.specs.Compensated.{plusZero}
 use Rattle.certificate.specs.declared.combine.Sums.{Sums}
-use Rattle.certificate.specs.declared.multipliers.Multiplier.{Multiplier}
-use Rattle.certificate.specs.declared.multipliers.Spread.{Spread}
-use Rattle.certificate.specs.Multipliers.{spreads}
+use Rattle.multipliers.specs.declared.weighing.Multiplier.{Multiplier}
+use Rattle.multipliers.specs.declared.weighing.Spread.{Spread}
+use Rattle.multipliers.specs.Multipliers.{spreads}
 use Rattle.certificate.specs.System.{System, errorAt, multiplierAt, rightSideAt, rowColumns, rowEntries}
-use Rattle.certificate.specs.Certificate.{Lists, lists, Certificate, certificate, keptInto, spreadInto, noSums, summed, withRow, afterRows, filled, cleared, combined}
-use Rattle.certificate.specs.Reads.{RowFits, ErrorsFit, Counted, RowGoesOn, RowsGoOn, CertificateFits}
-use Rattle.certificate.proofs.Lengths.{Same, same, filled-same, after-rows-same, lent-same, part-long, row-counted}
-use Rattle.certificate.proofs.Turns.{Turn, first, next}
+use Rattle.certificate.specs.Certificate.{Lists, Certificate, certificate, keptInto, spreadInto, noSums, summed, withRow, afterRows}
+use Rattle.certificate.specs.Reads.{RowFits, ErrorsFit, Counted, RowGoesOn, RowsGoOn}
+use Rattle.certificate.proofs.Lengths.{Same, same, after-rows-same, lent-same, part-long, row-counted}
+use Rattle.multipliers.proofs.Turns.{Turn, first, next}
 
 -- ---- one row: what its functions ask, and what they make together
 module _ {m : System} {r count : ℕ} {c : Certificate} (goes : RowGoesOn m r count c) where
@@ -112,56 +107,3 @@ module _ {m : System} {rows count : ℕ} {l : Lists} {errors : List Float} (go :
     pub next-row : {d : Certificate} → r < rows → d ≡ withRow m r c → Rows (r + 1) d
     unfolding afterRows
     next-row less e = next (withRow m r) turn less refl e
-
--- ---- the lists made 0 first
-filled-at : {A : Type 0} (n : ℕ) (x d : A) (xs : List A) → n ≤ length xs → (v : ℕ) → v < n → getD (filled n x xs) v d ≡ x
-unfolding filled
-filled-at zero x d xs fits v less = absurd (omega arith)
-filled-at (suc n) x d xs fits v less =
-    elim (le-or-lt n v) [
-      | inl here ↦ let e : v ≡ n = omega arith in rw e (getD-set-same (filled n x xs) n x d (omega (arith, filled-same n x xs)))
-      | inr below ↦ getD-set-other (filled n x xs) n v x d (omega arith) ∙ filled-at n x d xs (omega arith) v below
-    ]
-
-module _ {m : System} {rows count : ℕ} {l : Lists} {errors : List Float} (fits : CertificateFits m rows count l errors) where
-  pub cleared-go-on : RowsGoOn m rows count (cleared (m .estimated) count l errors .lists-of) (cleared (m .estimated) count l errors .errors)
-  unfolding cleared
-  cleared-go-on =
-      record {
-        readable = fits .readable;
-        lent =
-            lent-same
-            (record {
-              high-same = filled-same count plusZero (l .high);
-              low-same = filled-same count plusZero (l .low);
-              magnitudes-same = filled-same count plusZero (l .magnitudes);
-              terms-same = filled-same count 0 (l .terms);
-            })
-            (clear-same (m .estimated)) (fits .lent);
-        none = λ v less. filled-at count 0 0 (l .terms) (fits .lent .long .in-terms) v less;
-        small = fits .small;
-      }
-    where
-      clear-same : (b : Bool) → length (cond b (filled count plusZero errors) errors) ≡ length errors
-      clear-same true = filled-same count plusZero errors
-      clear-same false = refl
-
-  -- from what clearing gave
-  module _ {h w g e : List Float} {t : List ℕ}
-      (high : h ≡ filled count plusZero (l .high)) (low : w ≡ filled count plusZero (l .low)) (magnitudes : g ≡ filled count plusZero (l .magnitudes)) (terms : t ≡ filled count 0 (l .terms))
-      (clears : e ≡ cond (m .estimated) (filled count plusZero errors) errors) where
-    all-cleared : certificate (lists h w g t) e noSums ≡ cleared (m .estimated) count l errors
-    unfolding cleared
-    all-cleared =
-        ap (λ (x : List Float). certificate (lists x w g t) e noSums) high
-        ∙ ap (λ (x : List Float). certificate (lists (filled count plusZero (l .high)) x g t) e noSums) low
-        ∙ ap (λ (x : List Float). certificate (lists (filled count plusZero (l .high)) (filled count plusZero (l .low)) x t) e noSums) magnitudes
-        ∙ ap (λ (x : List ℕ). certificate (lists (filled count plusZero (l .high)) (filled count plusZero (l .low)) (filled count plusZero (l .magnitudes)) x) e noSums) terms
-        ∙ ap (λ (x : List Float). certificate (lists (filled count plusZero (l .high)) (filled count plusZero (l .low)) (filled count plusZero (l .magnitudes)) (filled count 0 (l .terms))) x noSums) clears
-
-    pub certificate-goes-on : RowsGoOn m rows count (lists h w g t) e
-    certificate-goes-on = subst (λ (c : Certificate). RowsGoOn m rows count (c .lists-of) (c .errors)) (sym all-cleared) cleared-go-on
-
-    pub certificate-is : {c : Certificate} → c ≡ afterRows m rows (certificate (lists h w g t) e noSums) → c ≡ combined m rows count l errors
-    unfolding combined
-    certificate-is f = f ∙ ap (afterRows m rows) all-cleared

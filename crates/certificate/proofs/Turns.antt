@@ -1,32 +1,15 @@
--- The loops over a row's entries, over the places of a list and over the multipliers, on lists. Assumes nothing.
+-- The loops over a row's entries and over the places of a list, on lists. Assumes nothing.
 use native.Mathlib.Omega.{arith}
-use native.Mathlib.Nat.{le-antisymm}
-use native.Mathlib.Numerals.{add-one}
 use mathlib.Core.Path.{_≡_, refl, ap, sym, subst, _∙_}
 use mathlib.Core.List.{List}
-use Prim.Native.Nat.{ℕ, suc, _+_, _<_, _≤_}
+use Prim.Native.Nat.{ℕ, _+_, _<_}
 use lib.ListN.{length, getD, set}
 use lib.Ieee.{Float, nan}
 use Rattle.cdouble.specs.declared.CDouble.{CDouble}
-use Rattle.certificate.specs.declared.refinement.Norm.{Norm}
-use Rattle.certificate.specs.Refinement.{normWith, finiteMaxNorm}
+use Rattle.multipliers.proofs.Turns.{Turn, first, next}
 use Rattle.certificate.specs.Certificate.{Lists, withTerm, afterTerms, withError, afterErrors, filled}
 use Rattle.certificate.specs.Reads.{TermFits, RowFits, ErrorsFit}
 use Rattle.certificate.proofs.Lengths.{Same, after-terms-same, after-terms-few, after-errors-same, filled-same}
-
--- ---- a loop of n turns, after k of which the state is f k
-pub record Turn {A : Type 0} (f : ℕ → A) (n k : ℕ) (a : A) : Type 0 where
-  pub within : k ≤ n
-  pub so-far : a ≡ f k
-
-pub first : {A : Type 0} (f : ℕ → A) (n : ℕ) → Turn f n 0 (f 0)
-first f n = record { within = omega arith; so-far = refl }
-
-pub next : {A : Type 0} {f : ℕ → A} {n k : ℕ} {a b : A} (g : A → A) → Turn f n k a → k < n → f (suc k) ≡ g (f k) → b ≡ g a → Turn f n (k + 1) b
-next {f = f} g turn less steps e = record { within = omega arith; so-far = rw add-one (e ∙ ap g (turn .so-far) ∙ sym steps) }
-
-pub done : {A : Type 0} {f : ℕ → A} {n k : ℕ} {a : A} → Turn f n k a → n ≤ k → a ≡ f n
-done {f = f} turn end = turn .so-far ∙ ap f (le-antisymm (turn .within) end)
 
 -- ---- a kept row's entries
 module _ {count : ℕ} (y : CDouble) {columns : List ℕ} {entries : List Float} {l : Lists} (row : RowFits count columns entries l) where
@@ -101,12 +84,3 @@ module _ {A : Type 0} (count : ℕ) (x : A) (xs : List A) where
     pub next-place : {zs : List A} → k < count → zs ≡ set ys k x → Places (k + 1) zs
     unfolding filled
     next-place less e = next (λ (ws : List A). set ws k x) turn less refl e
-
--- ---- the numbers of a norm
-module _ (number : ℕ → Float) (n : ℕ) where
-  abbrev Numbers : ℕ → Norm → Type 0
-  Numbers k norm = Turn (finiteMaxNorm number) n k norm
-
-  pub next-number : {norm after : Norm} {k : ℕ} → Numbers k norm → k < n → after ≡ normWith norm (number k) → Numbers (k + 1) after
-  unfolding finiteMaxNorm
-  next-number {k = k} turn less e = next (λ (m : Norm). normWith m (number k)) turn less refl e

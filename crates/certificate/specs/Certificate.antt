@@ -1,20 +1,20 @@
 -- The certificate, as a fold over the rows in ascending order and over each row's entries in stored order: document 01, "The certificate".
 -- Assumes nothing.
 use mathlib.Core.Bool.{Bool, cond}
-use mathlib.Core.List.{List}
+use mathlib.Core.List.{List, _++_}
 use Prim.Native.Nat.{ℕ, zero, suc, _+_}
-use lib.ListN.{length, getD, set}
+use lib.ListN.{length, getD, set, replicate, drop}
 use lib.Ieee.{Float, nan, eq}
 use Rattle.doubles.specs.Compare.{absolute}
 use Rattle.cdouble.specs.declared.CDouble.{CDouble}
 use Rattle.cdouble.specs.Compensated.{_⊕_, _⊗_, pair, plusScaled, plusZero, value}
 use Rattle.questions.specs.Rows.{isSet}
-use Rattle.certificate.specs.declared.multipliers.Multiplier.{Multiplier}
-use Rattle.certificate.specs.declared.multipliers.Multiplier.the-variants.{Zeroed, Dropped, Kept}
-use Rattle.certificate.specs.declared.multipliers.Spread.{Spread}
-use Rattle.certificate.specs.declared.multipliers.Spread.the-variants.{Nothing, By}
+use Rattle.multipliers.specs.declared.weighing.Multiplier.{Multiplier}
+use Rattle.multipliers.specs.declared.weighing.Multiplier.the-variants.{Zeroed, Dropped, Kept}
+use Rattle.multipliers.specs.declared.weighing.Spread.{Spread}
+use Rattle.multipliers.specs.declared.weighing.Spread.the-variants.{Nothing, By}
 use Rattle.certificate.specs.declared.combine.Sums.{Sums}
-use Rattle.certificate.specs.Multipliers.{spreads}
+use Rattle.multipliers.specs.Multipliers.{spreads}
 use Rattle.certificate.specs.System.{System, errorAt, multiplierAt, rightSideAt, rowColumns, rowEntries}
 
 -- ---- per variable: its coefficient's two parts, the magnitude that was summed, and how many terms
@@ -106,18 +106,29 @@ unfoldable pub afterRows : System → ℕ → Certificate → Certificate
 afterRows m zero c = c
 afterRows m (suc n) c = withRow m n (afterRows m n c)
 
--- the first n places made x, the places beyond as they are
+-- before any row, over count variables
+abbrev pub empty : ℕ → Certificate
+empty count =
+    certificate (lists (replicate count plusZero) (replicate count plusZero) (replicate count plusZero) (replicate count 0)) (replicate count plusZero) noSums
+
+-- `certificate`, of so many rows over so many variables
+unfoldable pub combined : System → ℕ → ℕ → Certificate
+combined m rows count = afterRows m rows (empty count)
+
+-- ---- the lent lists
+-- one that is written for each of count variables: "places beyond stay"
+abbrev pub over : {A : Type 0} → ℕ → List A → List A → List A
+over count xs lent = xs ++ drop count lent
+
+-- "A verdict writes coefficients, magnitudes, term counts and, if present, errors for every variable; places beyond stay, and without error
+-- bounds the errors slice stays"
+unfoldable pub written : Bool → ℕ → Certificate → Lists → List Float → Certificate
+written estimated count c l e =
+    certificate
+    (lists (over count (c .lists-of .high) (l .high)) (over count (c .lists-of .low) (l .low)) (over count (c .lists-of .magnitudes) (l .magnitudes)) (over count (c .lists-of .terms) (l .terms)))
+    (cond estimated (over count (c .errors) e) e) (c .sums-of)
+
+-- the first n places made x, one after another
 unfoldable pub filled : {A : Type 0} → ℕ → A → List A → List A
 filled zero x xs = xs
 filled (suc n) x xs = set (filled n x xs) n x
-
--- before any row: "A verdict writes coefficients, magnitudes, term counts and, if present, errors for every variable; places beyond stay, and
--- without error bounds the errors slice stays"
-unfoldable pub cleared : Bool → ℕ → Lists → List Float → Certificate
-cleared estimated count l e =
-    certificate (lists (filled count plusZero (l .high)) (filled count plusZero (l .low)) (filled count plusZero (l .magnitudes)) (filled count 0 (l .terms)))
-    (cond estimated (filled count plusZero e) e) noSums
-
--- `certificate`, of so many rows and variables, in the lent lists
-unfoldable pub combined : System → ℕ → ℕ → Lists → List Float → Certificate
-combined m rows count l e = afterRows m rows (cleared (m .estimated) count l e)

@@ -1,5 +1,3 @@
-pub mod Refinement
-pub mod Multipliers
 pub mod System
 pub mod Certificate
 pub mod Reads

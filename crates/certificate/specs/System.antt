@@ -1,5 +1,5 @@
 -- What of the sheet the certificate rests on: the rows, the slacks' bounds, who is in the basis, and the multipliers. Assumes nothing.
-use mathlib.Core.Bool.{Bool, _&&_}
+use mathlib.Core.Bool.{Bool}
 use mathlib.Core.List.{List}
 use Prim.Native.Nat.{ℕ}
 use lib.ListN.{getD}
@@ -8,9 +8,9 @@ use Rattle.doubles.specs.Compare.{absolute}
 use Rattle.cdouble.specs.declared.CDouble.{CDouble}
 use Rattle.questions.specs.Rows.{isSet, part, slackOf}
 use Rattle.sheet.specs.Sheet.{Sheet}
-use Rattle.certificate.specs.declared.multipliers.Multiplier.{Multiplier}
-use Rattle.certificate.specs.Refinement.{refined, rhoAt}
-use Rattle.certificate.specs.Multipliers.{signed, weighed}
+use Rattle.multipliers.specs.declared.weighing.Multiplier.{Multiplier}
+use Rattle.multipliers.specs.Refinement.{errorBounds, rhoAt}
+use Rattle.multipliers.specs.Multipliers.{signed, weighed}
 
 pub record System : Type 0 where
   pub structurals : ℕ
@@ -46,11 +46,6 @@ system structurals estimated leavingUp starts columns entries rightSides mins ma
       rhoLo = rhoLo;
       second = second;
     }
-
--- "When the sheet says checked, the errors are what `refinement_error` answers for rho and second correction; its None, or unchecked, means
--- no error bounds"
-abbrev pub errorBounds : ℕ → List Float → List Float → List Float → Bool
-errorBounds checked rhoHi rhoLo second = isSet checked && refined rhoHi rhoLo second
 
 -- that of a sheet
 abbrev pub systemOf : Sheet → System

@@ -5,14 +5,14 @@ ghost use lib.ListN.{length};
 ghost use Prim.Native.Nat.{_+_, _≤_, _<_, _^_};
 ghost use Rattle.cdouble.specs.Compensated.{plusZero};
 ghost use Rattle.certificate.specs.System.{system};
-ghost use Rattle.certificate.specs.Certificate.{afterErrors, afterRows, afterTerms, certificate, combined, filled, keptInto, lists, noSums, spreadInto, summed, withError, withRow, withTerm};
+ghost use Rattle.certificate.specs.Certificate.{afterErrors, afterRows, afterTerms, certificate, combined, filled, keptInto, lists, noSums, spreadInto, summed, withError, withRow, withTerm, written};
 ghost use Rattle.certificate.specs.Reads.{CertificateFits, ErrorsFit, RowFits, RowGoesOn, RowsGoOn, TermFits};
-use crate::multipliers::Multiplier;
-use crate::multipliers::Spread;
-use crate::multipliers::multiplier_at;
-use crate::multipliers::spreads;
 use cdouble::CDouble;
 use doubles::abs;
+use multipliers::Multiplier;
+use multipliers::Spread;
+use multipliers::multiplier_at;
+use multipliers::spreads;
 
 /// The right side of the combined row, the magnitude and count of all terms so far, how many rows are combined, and how
 /// many multipliers that are not 0 were taken as zero.
@@ -355,7 +355,7 @@ pub fn certificate(
     second: &[f64],
 ) -> Sums
     requires { ⌜ CertificateFits (system structurals estimated «leaving_up» (now starts) (now columns) (now entries) (now «right_sides») (now mins) (now maxs) (now basic) (now «rho_hi») (now «rho_lo») (now second)) rows count (lists (now high) (now low) (now magnitudes) (now terms)) (now errors) ⌝ }
-    ensures { λ after. ⌜ certificate (lists (now (high .exit)) (now (low .exit)) (now (magnitudes .exit)) (now (terms .exit))) (now (errors .exit)) after ≡ combined (system structurals estimated «leaving_up» (now (starts .entry)) (now (columns .entry)) (now (entries .entry)) (now («right_sides» .entry)) (now (mins .entry)) (now (maxs .entry)) (now (basic .entry)) (now («rho_hi» .entry)) (now («rho_lo» .entry)) (now (second .entry))) rows count (lists (now (high .entry)) (now (low .entry)) (now (magnitudes .entry)) (now (terms .entry))) (now (errors .entry)) ⌝ }
+    ensures { λ after. ⌜ certificate (lists (now (high .exit)) (now (low .exit)) (now (magnitudes .exit)) (now (terms .exit))) (now (errors .exit)) after ≡ written estimated count (combined (system structurals estimated «leaving_up» (now (starts .entry)) (now (columns .entry)) (now (entries .entry)) (now («right_sides» .entry)) (now (mins .entry)) (now (maxs .entry)) (now (basic .entry)) (now («rho_hi» .entry)) (now («rho_lo» .entry)) (now (second .entry))) rows count) (lists (now (high .entry)) (now (low .entry)) (now (magnitudes .entry)) (now (terms .entry))) (now (errors .entry)) ⌝ }
 {
     clear(count, high);
     clear(count, low);

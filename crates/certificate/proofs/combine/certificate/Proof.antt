@@ -1,6 +1,6 @@
 -- `certificate` meets its contract. Assumes nothing.
 use mathlib.Core.Path.{_∙_}
-use Rattle.certificate.proofs.Rows.{certificate-goes-on, certificate-is}
+use Rattle.certificate.proofs.Written.{certificate-goes-on, certificate-is}
 use borrow.Author.Needs.{needs}
 use Rattle.certificate.proofs.combine.certificate.Statement.{statement}
 use Rattle.certificate.proofs.combine.certificate.Tie as tie

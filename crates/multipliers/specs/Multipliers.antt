@@ -4,10 +4,10 @@ use lib.Ieee.{Float, inf, lt, le, eq}
 use Rattle.doubles.specs.Compare.{absolute}
 use Rattle.cdouble.specs.declared.CDouble.{CDouble}
 use Rattle.cdouble.specs.Compensated.{_⊕_, negated, normalized, plusZero, value}
-use Rattle.certificate.specs.declared.multipliers.Multiplier.{Multiplier}
-use Rattle.certificate.specs.declared.multipliers.Multiplier.the-variants.{Zeroed, Dropped, Kept}
-use Rattle.certificate.specs.declared.multipliers.Spread.{Spread}
-use Rattle.certificate.specs.declared.multipliers.Spread.the-variants.{Nothing, By}
+use Rattle.multipliers.specs.declared.weighing.Multiplier.{Multiplier}
+use Rattle.multipliers.specs.declared.weighing.Multiplier.the-variants.{Zeroed, Dropped, Kept}
+use Rattle.multipliers.specs.declared.weighing.Spread.{Spread}
+use Rattle.multipliers.specs.declared.weighing.Spread.the-variants.{Nothing, By}
 
 -- "y is rho, negated if leaving up, then normalized"
 unfoldable pub signed : Bool → CDouble → CDouble

@@ -1,9 +1,9 @@
 -- `weighed` meets its contract. Assumes nothing.
 use lib.Ieee.{ofBits}
-use Rattle.certificate.proofs.Branches.{weighed-zeroed, weighed-dropped, weighed-kept}
+use Rattle.multipliers.proofs.Branches.{weighed-zeroed, weighed-dropped, weighed-kept}
 use borrow.Author.Needs.{needs}
-use Rattle.certificate.proofs.multipliers.weighed.Statement.{statement}
-use Rattle.certificate.proofs.multipliers.weighed.Tie as tie
+use Rattle.multipliers.proofs.weighing.weighed.Statement.{statement}
+use Rattle.multipliers.proofs.weighing.weighed.Tie as tie
 
 value-requires : tie.Need-value-requires
 value-requires c κs = search needs

@@ -6,8 +6,8 @@ ghost use Prim.Native.Nat.{_<_};
 ghost use lib.Ieee.{nan};
 ghost use Rattle.doubles.specs.Compare.{absolute};
 ghost use Rattle.questions.specs.Rows.{slackOf};
-ghost use Rattle.certificate.specs.Multipliers.{needsInfiniteSide, signed, spreads, weighed};
-ghost use Rattle.certificate.specs.Refinement.{rhoAt};
+ghost use Rattle.multipliers.specs.Multipliers.{needsInfiniteSide, signed, spreads, weighed};
+ghost use Rattle.multipliers.specs.Refinement.{rhoAt};
 use cdouble::CDouble;
 use doubles::abs;
 

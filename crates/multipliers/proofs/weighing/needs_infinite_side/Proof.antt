@@ -2,8 +2,8 @@
 use mathlib.Core.Path.{refl}
 use lib.Ieee.{nanBits, ofBits}
 use Rattle.cdouble.proofs.Contracts.{when-true, when-false}
-use Rattle.certificate.proofs.multipliers.needs_infinite_side.Statement.{statement}
-use Rattle.certificate.proofs.multipliers.needs_infinite_side.Tie as tie
+use Rattle.multipliers.proofs.weighing.needs_infinite_side.Statement.{statement}
+use Rattle.multipliers.proofs.weighing.needs_infinite_side.Tie as tie
 
 float-from-bits-result : tie.Need-float-from-bits-result
 unfolding nanBits

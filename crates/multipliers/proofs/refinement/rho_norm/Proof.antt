@@ -5,10 +5,10 @@ use mathlib.Core.Path.{ap, _∙_}
 use Prim.Native.Nat.{_-_}
 use lib.ListN.{length}
 use Rattle.cdouble.specs.Compensated.{value}
-use Rattle.certificate.specs.Refinement.{finiteMaxNorm, normWith, rhoAt}
-use Rattle.certificate.proofs.Turns.{Turn, first, next-number, done}
-use Rattle.certificate.proofs.refinement.rho_norm.Statement.{statement}
-use Rattle.certificate.proofs.refinement.rho_norm.Tie as tie
+use Rattle.multipliers.specs.Refinement.{finiteMaxNorm, normWith, rhoAt}
+use Rattle.multipliers.proofs.Turns.{Turn, first, next-number, done}
+use Rattle.multipliers.proofs.refinement.rho_norm.Statement.{statement}
+use Rattle.multipliers.proofs.refinement.rho_norm.Tie as tie
 
 abbrev Inv-loop : tie.InvT-loop
 Inv-loop rho-hi rho-lo norm₀ r₀ norm r = Turn (finiteMaxNorm (λ k. value (rhoAt rho-hi rho-lo k))) (length rho-hi) r norm

@@ -3,10 +3,10 @@ use borrow.Author.Needs.{needs}
 use lib.Ieee.{ofBits, nan}
 use Prim.Native.Nat.{_-_}
 use lib.ListN.{length, getD}
-use Rattle.certificate.specs.Refinement.{finiteMaxNorm}
-use Rattle.certificate.proofs.Turns.{Turn, first, next-number, done}
-use Rattle.certificate.proofs.refinement.second_norm.Statement.{statement}
-use Rattle.certificate.proofs.refinement.second_norm.Tie as tie
+use Rattle.multipliers.specs.Refinement.{finiteMaxNorm}
+use Rattle.multipliers.proofs.Turns.{Turn, first, next-number, done}
+use Rattle.multipliers.proofs.refinement.second_norm.Statement.{statement}
+use Rattle.multipliers.proofs.refinement.second_norm.Tie as tie
 
 abbrev Inv-loop : tie.InvT-loop
 Inv-loop second norm₀ r₀ norm r = Turn (finiteMaxNorm (λ k. getD second k nan)) (length second) r norm

@@ -1,5 +1,5 @@
 -- `refinement_error`: document 01, "The certificate". Assumes nothing.
-use mathlib.Core.Bool.{Bool, false, cond}
+use mathlib.Core.Bool.{Bool, false, cond, _&&_}
 use mathlib.Core.List.{List}
 use Prim.Native.Nat.{ℕ, zero, suc}
 use lib.IntN.{negsuc}
@@ -9,8 +9,9 @@ use lib.Ieee.Scale.{finite}
 use Rattle.doubles.specs.Compare.{absolute, larger}
 use Rattle.cdouble.specs.declared.CDouble.{CDouble}
 use Rattle.cdouble.specs.Compensated.{_⊗_, pair, plusZero, value}
-use Rattle.certificate.specs.declared.refinement.Norm.{Norm}
-use Rattle.certificate.specs.declared.refinement.Norm.the-variants.{Largest, NotFinite}
+use Rattle.questions.specs.Rows.{isSet}
+use Rattle.multipliers.specs.declared.refinement.Norm.{Norm}
+use Rattle.multipliers.specs.declared.refinement.Norm.the-variants.{Largest, NotFinite}
 
 -- one number more in `finite_max_norm`: "The largest magnitude of `values`; `None` if one is not finite"
 abbrev pub normWith : Norm → Float → Norm
@@ -40,3 +41,8 @@ rhoAt rhoHi rhoLo r = pair (getD rhoHi r nan) (getD rhoLo r nan)
 unfoldable pub refined : List Float → List Float → List Float → Bool
 refined rhoHi rhoLo second =
     converges (finiteMaxNorm (λ r. value (rhoAt rhoHi rhoLo r)) (length rhoHi)) (finiteMaxNorm (λ r. getD second r nan) (length second))
+
+-- "When the sheet says checked, the errors are what `refinement_error` answers for rho and second correction; its None, or unchecked, means
+-- no error bounds"
+abbrev pub errorBounds : ℕ → List Float → List Float → List Float → Bool
+errorBounds checked rhoHi rhoLo second = isSet checked && refined rhoHi rhoLo second

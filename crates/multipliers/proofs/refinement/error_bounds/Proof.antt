@@ -1,8 +1,8 @@
 -- `error_bounds` meets its contract. Assumes nothing.
-use Rattle.certificate.proofs.Branches.{bounds-unchecked, bounds-checked}
+use Rattle.multipliers.proofs.Branches.{bounds-unchecked, bounds-checked}
 use borrow.Author.Needs.{needs}
-use Rattle.certificate.proofs.refinement.error_bounds.Statement.{statement}
-use Rattle.certificate.proofs.refinement.error_bounds.Tie as tie
+use Rattle.multipliers.proofs.refinement.error_bounds.Statement.{statement}
+use Rattle.multipliers.proofs.refinement.error_bounds.Tie as tie
 
 returns : tie.Need-returns
 returns c = bounds-unchecked (c .before .before .before .before .args .checked) (c .before .before .before .before .args .rho-hi .now) (c .before .before .before .before .args .rho-lo .now) (c .before .before .before .before .args .second .now) (c .if1 .taken)

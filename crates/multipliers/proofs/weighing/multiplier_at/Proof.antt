@@ -1,12 +1,12 @@
 -- `multiplier_at` meets its contract. Assumes nothing.
-use Rattle.certificate.specs.Refinement.{rhoAt}
+use Rattle.multipliers.specs.Refinement.{rhoAt}
 use lib.Ieee.{nan}
 use lib.ListN.{getD}
 use Prim.Native.Nat.{_+_}
-use Rattle.certificate.proofs.Branches.{multiplier-is}
+use Rattle.multipliers.proofs.Branches.{multiplier-is}
 use borrow.Author.Needs.{needs}
-use Rattle.certificate.proofs.multipliers.multiplier_at.Statement.{statement}
-use Rattle.certificate.proofs.multipliers.multiplier_at.Tie as tie
+use Rattle.multipliers.proofs.weighing.multiplier_at.Statement.{statement}
+use Rattle.multipliers.proofs.weighing.multiplier_at.Tie as tie
 
 mul-weighed : tie.Need-mul-weighed
 mul-weighed c = search needs

@@ -1,11 +1,11 @@
 -- `spreads` meets its contract. Assumes nothing.
 use lib.Ieee.{ofBits}
 use mathlib.Core.Path.{sym, ap}
-use Rattle.certificate.specs.Multipliers.{spreads}
-use Rattle.certificate.proofs.Branches.{spreads-by, spreads-nothing, spreads-kept, spreads-plain}
+use Rattle.multipliers.specs.Multipliers.{spreads}
+use Rattle.multipliers.proofs.Branches.{spreads-by, spreads-nothing, spreads-kept, spreads-plain}
 use borrow.Author.Needs.{needs}
-use Rattle.certificate.proofs.multipliers.spreads.Statement.{statement}
-use Rattle.certificate.proofs.multipliers.spreads.Tie as tie
+use Rattle.multipliers.proofs.weighing.spreads.Statement.{statement}
+use Rattle.multipliers.proofs.weighing.spreads.Tie as tie
 
 enum-known-m : tie.Need-enum-known-m
 enum-known-m c = search needs

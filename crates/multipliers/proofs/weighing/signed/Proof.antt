@@ -1,8 +1,8 @@
 -- `signed` meets its contract. Assumes nothing.
-use Rattle.certificate.proofs.Branches.{signed-up, signed-down}
+use Rattle.multipliers.proofs.Branches.{signed-up, signed-down}
 use borrow.Author.Needs.{needs}
-use Rattle.certificate.proofs.multipliers.signed.Statement.{statement}
-use Rattle.certificate.proofs.multipliers.signed.Tie as tie
+use Rattle.multipliers.proofs.weighing.signed.Statement.{statement}
+use Rattle.multipliers.proofs.weighing.signed.Tie as tie
 
 neg-requires : tie.Need-neg-requires
 neg-requires c κs = search needs

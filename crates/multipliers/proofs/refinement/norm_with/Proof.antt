@@ -1,8 +1,8 @@
 -- `norm_with` meets its contract. Assumes nothing.
-use Rattle.certificate.proofs.Branches.{norm-larger, norm-spoilt}
+use Rattle.multipliers.proofs.Branches.{norm-larger, norm-spoilt}
 use borrow.Author.Needs.{needs}
-use Rattle.certificate.proofs.refinement.norm_with.Statement.{statement}
-use Rattle.certificate.proofs.refinement.norm_with.Tie as tie
+use Rattle.multipliers.proofs.refinement.norm_with.Statement.{statement}
+use Rattle.multipliers.proofs.refinement.norm_with.Tie as tie
 
 enum-told : tie.Need-enum-told
 enum-told c = search needs

@@ -1,9 +1,9 @@
 -- `norms_converge` meets its contract. Assumes nothing.
 use lib.Ieee.{ofBits}
-use Rattle.certificate.proofs.Branches.{converges-is}
+use Rattle.multipliers.proofs.Branches.{converges-is}
 use borrow.Author.Needs.{needs}
-use Rattle.certificate.proofs.refinement.norms_converge.Statement.{statement}
-use Rattle.certificate.proofs.refinement.norms_converge.Tie as tie
+use Rattle.multipliers.proofs.refinement.norms_converge.Statement.{statement}
+use Rattle.multipliers.proofs.refinement.norms_converge.Tie as tie
 
 enum-told : tie.Need-enum-told
 enum-told c = search needs

@@ -1,0 +1,2 @@
+pub mod Refinement
+pub mod Multipliers
