@@ -74,7 +74,7 @@ module _ {m : System} {rows count : ℕ} {l : Lists} {errors : List Float} (go :
   abbrev before : Certificate
   before = certificate l errors noSums
 
-  rows-counted : (n : ℕ) → n ≤ rows → Counted m n count (afterRows m n before)
+  pub rows-counted : (n : ℕ) → n ≤ rows → Counted m n count (afterRows m n before)
   unfolding afterRows
   rows-counted zero at = record { few = λ v less. omega (arith, go .none v less); terms-few = omega arith; rows-few = omega arith; zeroed-few = omega arith }
   rows-counted (suc n) at =

@@ -119,8 +119,8 @@ magnitudeAt s r = rowActivity (s .structurals) (getD (s .rightSides) r nan) (par
 abbrev pub termsAt : Sheet → ℕ → ℕ
 termsAt s r = rowTerms (part (s .starts) r (s .columns))
 
--- ---- an accepted sheet whose numbers are doubles
-module _ (s : Sheet) (accepted : Accepted s) (doubles : Doubles s) where
+-- ---- an accepted sheet
+module _ (s : Sheet) (accepted : Accepted s) where
   all : AllYes s
   all = all-yes s accepted
 
@@ -164,10 +164,12 @@ module _ (s : Sheet) (accepted : Accepted s) (doubles : Doubles s) where
   pub leaving-unique : (v : ℕ) → v < variables s → Holds (s .basic) (s .places) (s .leavingRow) v → v ≡ leavingVariable s
   leaving-unique v less here = one-holder s all (s .leavingRow) (leaving-lt s all) v (leavingVariable s) less (leaving-holds .0) here (leaving-holds .1)
 
+-- ---- an accepted sheet whose numbers are doubles
+module _ (s : Sheet) (accepted : Accepted s) (doubles : Doubles s) where
   -- ---- rooms
   row-clear : (r : ℕ) → r < s .rows → Clear (tolAt s r) × Clear (magnitudeAt s r)
   row-clear r less = (
-    (mul-fits binary64 (s .feasibility) (getD (s .scales) r nan), mul-clear (s .feasibility) (getD (s .scales) r nan) (feasibility-plain s all .1) (scale-plain s all r less .1)),
+    (mul-fits binary64 (s .feasibility) (getD (s .scales) r nan), mul-clear (s .feasibility) (getD (s .scales) r nan) (feasibility-plain s (all s accepted) .1) (scale-plain s (all s accepted) r less .1)),
     magnitude-clear (s .structurals) (getD (s .rightSides) r nan) (part (s .starts) r (s .columns)) (part (s .starts) r (s .entries)) (s .values) (doubles .right-sides-fit .fit-at r),
   )
 
@@ -179,13 +181,13 @@ module _ (s : Sheet) (accepted : Accepted s) (doubles : Doubles s) where
   unfolding slackRoom
   slack-room r less =
       let c = row-clear r less in
-      let law = trimmed-room-law (tolAt s r) (magnitudeAt s r) (product-finite s all r less) (c .0 .0) (c .1 .0) (c .0 .1) (c .1 .1) (termsAt s r) in
+      let law = trimmed-room-law (tolAt s r) (magnitudeAt s r) (product-finite s (all s accepted) r less) (c .0 .0) (c .1 .0) (c .0 .1) (c .1 .1) (termsAt s r) in
       (trimmed-room-fits (tolAt s r) (magnitudeAt s r) (termsAt s r), law .0, law .1)
 
   tolerance-room : (v : ℕ) → v < variables s → (up : Bool) → RoomHolds (toward (tolsOf (modelOf s) v) up)
   unfolding toward
-  tolerance-room v less true = plain-room (getD (s .highTolerances) v nan) (doubles .high-fit .fit-at v) (high-plain s all v less)
-  tolerance-room v less false = plain-room (getD (s .lowTolerances) v nan) (doubles .low-fit .fit-at v) (low-plain s all v less)
+  tolerance-room v less true = plain-room (getD (s .highTolerances) v nan) (doubles .high-fit .fit-at v) (high-plain s (all s accepted) v less)
+  tolerance-room v less false = plain-room (getD (s .lowTolerances) v nan) (doubles .low-fit .fit-at v) (low-plain s (all s accepted) v less)
 
   -- 0 where the item is widened, else a tolerance or what `slack_room` answers
   pub room-law : (v : ℕ) → v < variables s → (up : Bool) → RoomHolds (wideningRoom (modelOf s) v up)
@@ -209,8 +211,8 @@ module _ (s : Sheet) (accepted : Accepted s) (doubles : Doubles s) where
     bound-no-nan = go up
       where
         go : (up : Bool) → T (not (isNan (boundOf (modelOf s) v up)))
-        go true = range-at s all v less .max-no-nan
-        go false = range-at s all v less .min-no-nan
+        go true = range-at s (all s accepted) v less .max-no-nan
+        go false = range-at s (all s accepted) v less .min-no-nan
 
     edge-holds : EdgeHolds bound up (edge (modelOf s) leaving v up)
     unfolding edge
@@ -246,4 +248,4 @@ module _ (s : Sheet) (accepted : Accepted s) (doubles : Doubles s) where
       let fit = edge-fits (leavingVariable s) v less in
       let outer = edge-outer (leavingVariable s) v less in
       le-trans (lowEdge s v) min (highEdge s v) (fit false) (doubles .mins-fit .fit-at v) (fit true) (outer false)
-      (le-trans min max (highEdge s v) (doubles .mins-fit .fit-at v) (doubles .maxs-fit .fit-at v) (fit true) (range-at s all v less .ordered) (outer true))
+      (le-trans min max (highEdge s v) (doubles .mins-fit .fit-at v) (doubles .maxs-fit .fit-at v) (fit true) (range-at s (all s accepted) v less .ordered) (outer true))

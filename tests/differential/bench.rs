@@ -1,0 +1,51 @@
+//! Times the kept reckoning here and in the Rust on the same sheets.
+use crate::call::Call;
+use crate::generate::{timed, Rng};
+use crate::rust::{reckon, Multipliers, Solver};
+use std::hint::black_box;
+use std::time::Instant;
+
+const SHEETS: usize = 8;
+const REPETITIONS: usize = 25;
+
+/// Nanoseconds for a call, best of the repetitions.
+fn best(calls: usize, mut run: impl FnMut()) -> f64 {
+    let mut best = f64::INFINITY;
+    for _ in 0..REPETITIONS {
+        let start = Instant::now();
+        for _ in 0..calls {
+            run();
+        }
+        best = best.min(start.elapsed().as_nanos() as f64 / calls as f64);
+    }
+    best / SHEETS as f64
+}
+
+pub fn run(seed: u64) {
+    println!("seed {seed}; ns for a call, best of {REPETITIONS}, {SHEETS} sheets a size");
+    println!("{:>8} {:>10} {:>12} {:>12} {:>8}", "entries", "", "here", "Rust", "ratio");
+    for checked in [false, true] {
+        for entries in [4, 64, 512, 4096] {
+            let mut rng = Rng::of(seed, entries as u64);
+            let sheets: Vec<_> = (0..SHEETS).map(|_| timed(&mut rng, entries, checked)).collect();
+            let calls = (400_000 / entries / SHEETS).max(4);
+            let mut lent: Vec<Call> = sheets.iter().map(Call::of).collect();
+            let here = best(calls, || {
+                for (sheet, call) in sheets.iter().zip(&mut lent) {
+                    black_box(call.run(black_box(sheet)));
+                }
+            });
+            let mut solvers: Vec<_> = sheets
+                .iter()
+                .map(|sheet| (Solver::of(sheet), Multipliers::of(sheet), sheet.leaving_row, sheet.leaving_up != 0))
+                .collect();
+            let there = best(calls, || {
+                for (solver, multipliers, row, up) in &mut solvers {
+                    black_box(reckon(black_box(solver), multipliers, *row, *up));
+                }
+            });
+            let how = if checked { "checked" } else { "unchecked" };
+            println!("{entries:>8} {how:>10} {here:>12.0} {there:>12.0} {:>8.2}", here / there);
+        }
+    }
+}

@@ -1,0 +1,201 @@
+//! The stored list: sheets with the Rust's answers, in lines of a letter and eight numbers.
+//!
+//!     S rows structurals entries widened extra class 0 0
+//!     D slice place n x x x x x
+//!     G refusal holds gap allowance cut zero zeroed rows
+//!     L list place n x x x x x
+use crate::generate::{sheet, Rng, CLASSES};
+use crate::rust::Walk;
+use crate::sheet::{Sheet, FILL, FILL_TERMS};
+use crate::{expected, Expected};
+
+pub fn pattern(x: f64) -> u64 {
+    if x.is_nan() { 0x7FF8_0000_0000_0000 } else { x.to_bits() }
+}
+
+fn line(out: &mut String, letter: char, numbers: &[u64]) {
+    out.push(letter);
+    for at in 0..8 {
+        out.push_str(&format!(" {:016X}", numbers.get(at).unwrap_or(&0)));
+    }
+    out.push('\n');
+}
+
+/// Five places to a line; lines that would put what a new sheet has are left out.
+fn list(out: &mut String, letter: char, which: u64, numbers: &[u64], leave: Option<&[u64]>) {
+    for (chunk, values) in numbers.chunks(5).enumerate() {
+        let from = chunk * 5;
+        if leave.is_some_and(|leave| leave[from..from + values.len()] == *values) {
+            continue;
+        }
+        let mut line_numbers = vec![which, from as u64, values.len() as u64];
+        line_numbers.extend_from_slice(values);
+        line(out, letter, &line_numbers);
+    }
+}
+
+/// A sheet in lines, with what is to come of it.
+pub fn lines(sheet: &Sheet, expected: &Expected) -> String {
+    let doubles = |list: &[f64]| list.iter().map(|&x| pattern(x)).collect::<Vec<u64>>();
+    let counts = |list: &[usize]| list.iter().map(|&n| n as u64).collect::<Vec<u64>>();
+    let flags = |list: &[u8]| list.iter().map(|&flag| flag as u64).collect::<Vec<u64>>();
+    let mut out = String::new();
+    let count = sheet.made_rows + sheet.made_structurals;
+    let entries = sheet.entries.len();
+    let sizes = [sheet.made_rows, sheet.made_structurals, entries, sheet.widened_vars.len()];
+    let mut first = counts(&sizes);
+    first.extend([sheet.outputs[0].saturating_sub(count) as u64, sheet.class as u64]);
+    line(&mut out, 'S', &first);
+    let slices = [
+        counts(&sheet.starts),
+        counts(&sheet.columns),
+        doubles(&sheet.entries),
+        doubles(&sheet.right_sides),
+        doubles(&sheet.scales),
+        flags(&sheet.integer),
+        doubles(&sheet.mins),
+        doubles(&sheet.maxs),
+        doubles(&sheet.low_tolerances),
+        doubles(&sheet.high_tolerances),
+        flags(&sheet.basic),
+        counts(&sheet.places),
+        doubles(&sheet.values),
+        counts(&sheet.widened_vars),
+        flags(&sheet.widened_ups),
+        doubles(&sheet.rho_hi),
+        doubles(&sheet.rho_lo),
+        doubles(&sheet.second),
+    ];
+    for (which, numbers) in slices.iter().enumerate() {
+        list(&mut out, 'D', which as u64, numbers, Some(&vec![0; numbers.len()]));
+    }
+    let numbers = [
+        pattern(sheet.feasibility),
+        sheet.checked as u64,
+        sheet.leaving_row as u64,
+        sheet.leaving_up as u64,
+        sheet.rows as u64,
+        sheet.structurals as u64,
+        sheet.entry_count as u64,
+    ];
+    // the sizes are said where they are not those of the first line
+    list(&mut out, 'D', 18, &numbers[..4], Some(&[0; 4]));
+    for (at, made) in [sheet.made_rows, sheet.made_structurals, entries].into_iter().enumerate() {
+        if numbers[4 + at] != made as u64 {
+            line(&mut out, 'D', &[18, 4 + at as u64, 1, numbers[4 + at]]);
+        }
+    }
+    line(&mut out, 'G', &expected.kept);
+    for (which, numbers) in expected.lists.iter().enumerate() {
+        list(&mut out, 'L', which as u64, numbers, None);
+    }
+    out
+}
+
+/// What an output holds before the call.
+pub fn fill(list: usize) -> u64 {
+    if list == 3 { FILL_TERMS as u64 } else { FILL }
+}
+
+/// What a sheet comes to, in short.
+fn outcome(expected: &Expected) -> (Vec<bool>, u64) {
+    let Some(answer) = &expected.answer else {
+        return (Vec::new(), expected.kept[0]);
+    };
+    let marks = [
+        answer.holds,
+        answer.gap.is_finite(),
+        answer.gap.is_nan(),
+        answer.walk == Walk::Spoilt,
+        answer.walk == Walk::Unlimited,
+        answer.cut != 0.0,
+        answer.errors.is_some(),
+        answer.errors.iter().flatten().any(|&error| error != 0.0),
+    ];
+    (marks.to_vec(), expected.kept[5] << 32 | expected.kept[6] << 16 | expected.kept[7])
+}
+
+/// Clears slices, some left to chance, where the sheet comes to the same in short.
+fn strip(rng: &mut Rng, sheet: Sheet) -> Sheet {
+    let clear: [fn(&mut Sheet); 16] = [
+        |s| s.second.fill(0.0),
+        |s| s.rho_lo.fill(0.0),
+        |s| s.integer.fill(0),
+        |s| s.low_tolerances.fill(0.0),
+        |s| s.high_tolerances.fill(0.0),
+        |s| s.scales.fill(0.0),
+        |s| s.values.fill(0.0),
+        |s| {
+            if s.class != 10 {
+                (s.widened_vars, s.widened_ups) = (Vec::new(), Vec::new());
+            }
+        },
+        |s| s.widened_ups.fill(0),
+        |s| s.mins.fill(0.0),
+        |s| s.maxs.fill(0.0),
+        |s| s.feasibility = 0.0,
+        |s| s.places.fill(0),
+        |s| s.basic.fill(0),
+        |s| s.rho_hi.fill(0.0),
+        |s| s.right_sides.fill(0.0),
+    ];
+    let mut sheet = sheet;
+    let before = outcome(&expected(&sheet));
+    for clear in clear {
+        let mut less = sheet.clone();
+        clear(&mut less);
+        if rng.percent(80) && outcome(&expected(&less)) == before {
+            sheet = less;
+        }
+    }
+    sheet
+}
+
+/// Whether a sheet shows what its class is for; `round` counts those of the class that are stored.
+fn wanted(sheet: &Sheet, expected: &Expected, round: usize) -> bool {
+    let Some(answer) = &expected.answer else {
+        return expected.kept[0] == 2 + round as u64 % 11;
+    };
+    match sheet.class {
+        3 if round % 3 != 0 => answer.multipliers_zeroed > 0,
+        4 => match round % 4 {
+            0 | 1 => answer.zero_within_error > 0,
+            2 => answer.walk == Walk::Unlimited,
+            _ => true,
+        },
+        6 if round % 2 == 0 => !answer.gap.is_finite() || answer.low.iter().any(|low| !low.is_finite()),
+        7 => sheet.rho_hi.iter().chain(&sheet.rho_lo).any(|x| !x.is_finite()) == (round % 3 != 0),
+        10 => !sheet.widened_vars.is_empty() && (answer.holds || round % 2 == 0),
+        _ => answer.holds || round % 2 == 0,
+    }
+}
+
+/// Prints so many sheets at least, of all classes. Sheets of few lines are taken, since the list is kept in the
+/// repository; a few of moderate size come last.
+pub fn print(seed: u64, sheets: usize) {
+    const MODERATE: usize = 5;
+    let mut stored = 0;
+    let mut tries = 0;
+    let mut rounds = [0; CLASSES.len()];
+    let turn = [0, 9, 1, 2, 3, 4, 5, 9, 6, 7, 10];
+    while stored + MODERATE < sheets.max(MODERATE + 1) {
+        tries += 1;
+        let mut rng = Rng::of(seed, tries);
+        let class = turn[stored % turn.len()];
+        let most = if class == 9 { rng.pick(&[9, 11, 13]) } else { rng.pick(&[14, 15, 15, 16, 16, 19]) };
+        let made = sheet(&mut rng, class, true);
+        let made = strip(&mut rng, made);
+        let expected = expected(&made);
+        let text = lines(&made, &expected);
+        if text.lines().count() <= most && wanted(&made, &expected, rounds[class]) {
+            print!("{text}");
+            stored += 1;
+            rounds[class] += 1;
+        }
+    }
+    for _ in 0..MODERATE {
+        tries += 1;
+        let made = sheet(&mut Rng::of(seed, tries), 8, true);
+        print!("{}", lines(&made, &expected(&made)));
+    }
+}
