@@ -4,9 +4,10 @@ use native.Mathlib.Nat.{le-antisymm}
 use native.Mathlib.Numerals.{add-one}
 use mathlib.Core.Path.{_≡_, refl, ap, sym, _∙_}
 use mathlib.Core.Logic.{inl, inr}
-use mathlib.Core.Bool.{Bool, true, false, cond, _&&_, Bool·beq, or-true}
+use mathlib.Core.Bool.{Bool, true, false, cond, _&&_, Bool·beq, and-false, or-true}
 use mathlib.Core.List.{List}
 use Prim.Native.Nat.{ℕ, zero, suc, _+_, _-_, _<_, _≤_}
+use borrow.Author.Tests.{eq-eqb, ne-eqb}
 use lib.Dec.{eqb}
 use lib.ListN.{length, getD}
 use lib.Ieee.{Float, nan}
@@ -40,6 +41,15 @@ module _ {structurals : ℕ} {values : List Float} {columns : List ℕ} {entries
 module _ (vars ups : List ℕ) (v : ℕ) (up : Bool) where
   abbrev pub matches : ℕ → Bool
   matches k = eqb (getD vars k 0) v && Bool·beq (isSet (getD ups k 0)) up
+
+  pub matches-both : (k : ℕ) → getD vars k 0 ≡ v → Bool·beq (isSet (getD ups k 0)) up ≡ true → matches k ≡ true
+  matches-both k here side = rw (eq-eqb (getD vars k 0) v here) side
+
+  pub other-side : (k : ℕ) → Bool·beq (isSet (getD ups k 0)) up ≡ false → matches k ≡ false
+  other-side k side = rw side (and-false (eqb (getD vars k 0) v))
+
+  pub other-variable : (k : ℕ) → (getD vars k 0 ≡ v → ⊥) → matches k ≡ false
+  other-variable k differs = rw (ne-eqb (getD vars k 0) v differs) refl
 
   pub record Unmet (k : ℕ) : Type 0 where
     pub within : k ≤ length vars

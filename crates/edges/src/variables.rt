@@ -18,7 +18,7 @@ pub fn is_widened(vars: &[usize], ups: &[u8], v: usize, up: bool) -> bool
 {
     let mut k = 0;
     while k < vars.len() {
-        if (vars[k] == v) & ((ups[k] != 0) == up) {
+        if vars[k] == v && (ups[k] != 0) == up {
             return true;
         }
         k += 1;

@@ -1,8 +1,9 @@
 -- `is_widened` meets its contract. Assumes nothing.
 use borrow.Author.Needs.{needs}
 use Prim.Native.Nat.{_-_}
+use mathlib.Core.Logic.{inl, inr}
 use lib.ListN.{length}
-use Rattle.edges.proofs.Loops.{Unmet, none-met, one-unmet, is-met, all-unmet}
+use Rattle.edges.proofs.Loops.{Unmet, matches-both, other-side, other-variable, none-met, one-unmet, is-met, all-unmet}
 use Rattle.edges.proofs.variables.is_widened.Statement.{statement}
 use Rattle.edges.proofs.variables.is_widened.Tie as tie
 
@@ -21,11 +22,11 @@ mul-if1 c = search needs
 shared-slice-read-if1 : tie.Need-shared-slice-read-if1 Inv-loop μ-loop
 shared-slice-read-if1 c = search needs
 
-shared-slice-read-if1-2 : tie.Need-shared-slice-read-if1-2 Inv-loop μ-loop
-shared-slice-read-if1-2 c = search needs
+shared-slice-read-if2 : tie.Need-shared-slice-read-if2 Inv-loop μ-loop
+shared-slice-read-if2 c = search needs
 
 returns : tie.Need-returns Inv-loop μ-loop
-returns c = is-met (c .before .before .before .before .before .args .vars .now) (c .before .before .before .before .before .args .ups .now) (c .before .before .before .before .before .args .v) (c .before .before .before .before .before .args .up) (c .before .before .before .before .loop .inv) (c .before .before .before .loop-test .taken) (c .if1 .taken)
+returns c = is-met (c .before .before .before .before .before .before .args .vars .now) (c .before .before .before .before .before .before .args .ups .now) (c .before .before .before .before .before .before .args .v) (c .before .before .before .before .before .before .args .up) (c .before .before .before .before .before .loop .inv) (c .before .before .before .before .loop-test .taken) (matches-both (c .before .before .before .before .before .before .args .vars .now) (c .before .before .before .before .before .before .args .ups .now) (c .before .before .before .before .before .before .args .v) (c .before .before .before .before .before .before .args .up) (c .before .before .before .before .before .loop .k) (c .before .before .if1 .taken) (c .if2 .taken))
 
 add-k : tie.Need-add-k Inv-loop μ-loop
 add-k c = search needs
@@ -34,7 +35,7 @@ loop-less : tie.Need-loop-less Inv-loop μ-loop
 loop-less c = search needs
 
 loop-again : tie.Need-loop-again Inv-loop μ-loop
-loop-again c = one-unmet (c .before .before .before .before .before .args .vars .now) (c .before .before .before .before .before .args .ups .now) (c .before .before .before .before .before .args .v) (c .before .before .before .before .before .args .up) (c .before .before .before .before .loop .inv) (c .before .before .before .loop-test .taken) (c .if1 .left)
+loop-again c = one-unmet (c .before .before .before .before .args .vars .now) (c .before .before .before .before .args .ups .now) (c .before .before .before .before .args .v) (c .before .before .before .before .args .up) (c .before .before .before .loop .inv) (c .before .before .loop-test .taken) (elim (c .if1 .came) [ inl x ↦ other-side (c .before .before .before .before .args .vars .now) (c .before .before .before .before .args .ups .now) (c .before .before .before .before .args .v) (c .before .before .before .before .args .up) (c .before .before .before .loop .k) (x .2 .left) | inr x ↦ other-variable (c .before .before .before .before .args .vars .now) (c .before .before .before .before .args .ups .now) (c .before .before .before .before .args .v) (c .before .before .before .before .args .up) (c .before .before .before .loop .k) (x .left) ])
 
 returns-2 : tie.Need-returns-2 Inv-loop μ-loop
 returns-2 c = all-unmet (c .before .before .args .vars .now) (c .before .before .args .ups .now) (c .before .before .args .v) (c .before .before .args .up) (c .before .loop .inv) (c .loop-test .left)
@@ -48,7 +49,7 @@ is-widened-spec =
     loop-holds
     mul-if1
     shared-slice-read-if1
-    shared-slice-read-if1-2
+    shared-slice-read-if2
     returns
     add-k
     loop-less
