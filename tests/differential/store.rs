@@ -170,13 +170,57 @@ fn wanted(sheet: &Sheet, expected: &Expected, round: usize) -> bool {
     }
 }
 
-/// Prints so many sheets at least, of all classes. Sheets of few lines are taken, since the list is kept in the
+/// Document 01's example; the same with right side 1; and with its variable real and +infinity for its max. Beside each what
+/// 01 says of the answer's numbers, in the order of a G line.
+fn by_hand() -> [(Sheet, [Option<u64>; 8]); 3] {
+    let example = Sheet {
+        made_rows: 1,
+        made_structurals: 1,
+        rows: 1,
+        structurals: 1,
+        entry_count: 2,
+        starts: vec![0, 2],
+        columns: vec![0, 1],
+        entries: vec![1.0, 1.0],
+        right_sides: vec![3.0],
+        scales: vec![1.0],
+        integer: vec![1],
+        mins: vec![0.0, 0.0],
+        maxs: vec![1.0, 0.0],
+        low_tolerances: vec![0.0, 0.0],
+        high_tolerances: vec![0.0, 0.0],
+        basic: vec![0, 1],
+        places: vec![0, 0],
+        values: vec![1.0, 2.0],
+        rho_hi: vec![1.0],
+        rho_lo: vec![0.0],
+        second: vec![0.0],
+        outputs: [3; 5],
+        ..Sheet::default()
+    };
+    let small = Sheet { right_sides: vec![1.0], ..example.clone() };
+    let unlimited = Sheet { integer: vec![0], maxs: vec![f64::INFINITY, 0.0], ..example.clone() };
+    let whole = [0, 1, 0x4000_0000_0000_0000, 0x39F8_0000_0000_0000, 0x3CB0_0000_0000_0324, 0, 0, 1].map(Some);
+    let nothing = [Some(0), Some(0), Some(0), None, None, None, None, None];
+    let none = [0, 0, 0xFFF0_0000_0000_0000, 0x39E8_0000_0000_0000, 0].map(Some);
+    let none = [none[0], none[1], none[2], none[3], none[4], None, None, None];
+    [(example, whole), (small, nothing), (unlimited, none)]
+}
+
+/// Prints so many sheets at least, of all classes, after those of document 01. Sheets of few lines are taken, since the list is kept in the
 /// repository; a few of moderate size come last.
 pub fn print(seed: u64, sheets: usize) {
     const MODERATE: usize = 5;
     let mut stored = 0;
     let mut tries = 0;
     let mut rounds = [0; CLASSES.len()];
+    for (sheet, said) in by_hand() {
+        let expected = expected(&sheet);
+        for (number, said) in expected.kept.iter().zip(said) {
+            assert!(said.is_none_or(|said| said == *number), "a sum of document 01: {number:016X}");
+        }
+        print!("{}", lines(&sheet, &expected));
+    }
     let turn = [0, 9, 1, 2, 3, 4, 5, 9, 6, 7, 10];
     while stored + MODERATE < sheets.max(MODERATE + 1) {
         tries += 1;
