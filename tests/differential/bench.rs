@@ -1,4 +1,5 @@
-//! Times the kept reckoning here and in the Rust on the same sheets.
+//! Times the kept reckoning here and in the Rust on the same sheets. A call here asks the questions first, which the Rust does
+//! not. What they take is told by the same sheets with a leaving row that the last question refuses; the rest is the reckoning.
 use crate::call::Call;
 use crate::generate::{timed, Rng};
 use crate::rust::{reckon, Multipliers, Solver};
@@ -23,7 +24,10 @@ fn best(calls: usize, mut run: impl FnMut()) -> f64 {
 
 pub fn run(seed: u64) {
     println!("seed {seed}; ns for a call, best of {REPETITIONS}, {SHEETS} sheets a size");
-    println!("{:>8} {:>10} {:>12} {:>12} {:>8}", "entries", "", "here", "Rust", "ratio");
+    println!(
+        "{:>8} {:>10} {:>8} {:>10} {:>8} {:>7} {:>16}",
+        "entries", "", "here", "questions", "Rust", "ratio", "reckoning alone"
+    );
     for checked in [false, true] {
         for entries in [4, 64, 512, 4096] {
             let mut rng = Rng::of(seed, entries as u64);
@@ -32,6 +36,15 @@ pub fn run(seed: u64) {
             let mut lent: Vec<Call> = sheets.iter().map(Call::of).collect();
             let here = best(calls, || {
                 for (sheet, call) in sheets.iter().zip(&mut lent) {
+                    black_box(call.run(black_box(sheet)));
+                }
+            });
+            let mut refused = sheets.clone();
+            for sheet in &mut refused {
+                sheet.leaving_row = sheet.rows;
+            }
+            let questions = best(calls, || {
+                for (sheet, call) in refused.iter().zip(&mut lent) {
                     black_box(call.run(black_box(sheet)));
                 }
             });
@@ -45,7 +58,10 @@ pub fn run(seed: u64) {
                 }
             });
             let how = if checked { "checked" } else { "unchecked" };
-            println!("{entries:>8} {how:>10} {here:>12.0} {there:>12.0} {:>8.2}", here / there);
+            let (whole, reckoning) = (here / there, (here - questions) / there);
+            println!(
+                "{entries:>8} {how:>10} {here:>8.0} {questions:>10.0} {there:>8.0} {whole:>7.2} {reckoning:>16.2}"
+            );
         }
     }
 }
