@@ -50,7 +50,7 @@ walk magnitude terms impliedMax room leavingRoom leavingEdge zeroWithinError lon
 abbrev pub started : Sums → Walk
 started c = walk (c .magnitude) (c .terms) (pair plusZero plusZero) plusZero plusZero plusZero 0 (c .rows) 0
 
--- a coefficient that counts at a finite bound, whose room ends at edge: the leaving variable's room is kept apart
+-- a coefficient that counts at a finite bound, its variable's room ending at end: the leaving variable's room is kept apart from the others'
 unfoldable pub counted : Bool → Coefficient → Float → Float → Walk → Walk
 counted leaving c bound end w =
     let width = distanceUp end bound in
