@@ -13,7 +13,7 @@ use Rattle.certificate.specs.System.{System, errorAt, multiplierAt, righ
 use Rattle.certificate.specs.Certificate.{Lists, Certificate, certificate, keptInto, spreadInto, noSums, summed, withRow, afterRows}
 use Rattle.certificate.specs.Reads.{RowFits, ErrorsFit, Counted, RowGoesOn, RowsGoOn}
 use Rattle.certificate.proofs.Lengths.{Same, same, after-rows-same, lent-same, part-long, row-counted}
-use Rattle.multipliers.proofs.Turns.{Turn, first, next}
+use Rattle.exact.proofs.Turns.{Turn, first, next}
 
 -- ---- one row: what its functions ask, and what they make together
 module _ {m : System} {r count : ℕ} {c : Certificate} (goes : RowGoesOn m r count c) where

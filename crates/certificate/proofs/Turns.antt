@@ -6,7 +6,7 @@ use Prim.Native.Nat.{ℕ, _+_, _<_}
 use lib.ListN.{length, getD, set}
 use lib.Ieee.{Float, nan}
 use Rattle.cdouble.specs.declared.CDouble.{CDouble}
-use Rattle.multipliers.proofs.Turns.{Turn, first, next}
+use Rattle.exact.proofs.Turns.{Turn, first, next}
 use Rattle.certificate.specs.Certificate.{Lists, withTerm, afterTerms, withError, afterErrors, filled}
 use Rattle.certificate.specs.Reads.{TermFits, RowFits, ErrorsFit}
 use Rattle.certificate.proofs.Lengths.{Same, after-terms-same, after-terms-few, after-errors-same, filled-same}

@@ -12,30 +12,25 @@ use lib.Dec.{eqb}
 use lib.ListN.{length, getD}
 use lib.Ieee.{Float, nan}
 use Rattle.exact.proofs.Naturals.{le-or-lt}
+use Rattle.exact.proofs.Turns.{Turn, first, next}
 use Rattle.questions.specs.Rows.{isSet}
 use Rattle.questions.specs.Places.{holdsPlace, widenedAmong}
 use Rattle.edges.specs.declared.activity.Activity.{Activity}
 use Rattle.edges.specs.Activity.{withEntry, afterEntries}
 use Rattle.edges.specs.Edges.{isWidened, holderFrom}
 
--- ---- a row's entries: the first k are in
-pub record Entered (structurals : ℕ) (values : List Float) (columns : List ℕ) (entries : List Float) (a₀ : Activity) (k : ℕ) (a : Activity) : Type 0 where
-  pub within : k ≤ length columns
-  pub so-far : a ≡ afterEntries structurals values columns entries k a₀
-
+-- ---- a row's entries
 module _ (structurals : ℕ) (values : List Float) (columns : List ℕ) (entries : List Float) (a₀ : Activity) where
-  pub none-entered : Entered structurals values columns entries a₀ 0 a₀
-  unfolding afterEntries
-  none-entered = record { within = omega arith; so-far = refl }
+  abbrev Entered : ℕ → Activity → Type 0
+  Entered k a = Turn (λ (n : ℕ). afterEntries structurals values columns entries n a₀) (length columns) k a
 
-module _ {structurals : ℕ} {values : List Float} {columns : List ℕ} {entries : List Float} {a₀ a : Activity} {k : ℕ} (turn : Entered structurals values columns entries a₀ k a) where
-  pub one-entered : {after : Activity} → k < length columns → after ≡ withEntry structurals values (getD columns k 0) (getD entries k nan) a → Entered structurals values columns entries a₀ (k + 1) after
+  pub none-entered : Entered 0 a₀
   unfolding afterEntries
-  one-entered less e =
-      record { within = omega arith; so-far = rw add-one (e ∙ ap (withEntry structurals values (getD columns k 0) (getD entries k nan)) (turn .so-far)) }
+  none-entered = first (λ (n : ℕ). afterEntries structurals values columns entries n a₀) (length columns)
 
-  pub all-entered : length columns ≤ k → a ≡ afterEntries structurals values columns entries (length columns) a₀
-  all-entered end = turn .so-far ∙ ap (λ (n : ℕ). afterEntries structurals values columns entries n a₀) (le-antisymm (turn .within) end)
+  pub one-entered : {k : ℕ} {a after : Activity} → Entered k a → k < length columns → after ≡ withEntry structurals values (getD columns k 0) (getD entries k nan) a → Entered (k + 1) after
+  unfolding afterEntries
+  one-entered {k} turn less e = next (withEntry structurals values (getD columns k 0) (getD entries k nan)) turn less refl e
 
 -- ---- the widened list: the first k items are others
 module _ (vars ups : List ℕ) (v : ℕ) (up : Bool) where

@@ -12,3 +12,4 @@ pub mod Digits
 pub mod Operations
 pub mod Between
 pub mod Signs
+pub mod Turns

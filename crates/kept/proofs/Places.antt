@@ -35,7 +35,7 @@ certificate-sized s =
     }
 
 -- a list of n places over another: its own places first, the other's beyond
-pub place-written : {A : Type 0} {n : ℕ} (xs lent : List A) (d : A) → length xs ≡ n → (v : ℕ) → v < n → getD (over n xs lent) v d ≡ getD xs v d
+pub place-written : {A : Type 0} {n : ℕ} (xs lent : List A) (d : A) → n ≤ length xs → (v : ℕ) → v < n → getD (over n xs lent) v d ≡ getD xs v d
 place-written {n = n} xs lent d long v less = List·getD-append xs (drop n lent) d v (omega arith)
 
 pub place-beyond : {A : Type 0} {n : ℕ} (xs lent : List A) (d : A) → length xs ≡ n → (v : ℕ) → n ≤ v → getD (over n xs lent) v d ≡ getD lent v d

@@ -5,7 +5,7 @@ use mathlib.Core.Bool.{Bool, true, false, cond}
 use mathlib.Core.List.{List}
 use Prim.Native.Nat.{ℕ, zero, suc, _<_, _≤_}
 use borrow.Author.Tests.{eq-eqb, ne-eqb}
-use lib.ListN.{length, getD, drop, length-append, List·getD-append}
+use lib.ListN.{length, getD, drop, length-append}
 use lib.Ieee.{Float, nan}
 use Rattle.cdouble.specs.Compensated.{plusZero}
 use Rattle.cdouble.proofs.Contracts.{when-true, when-false}
@@ -25,18 +25,16 @@ use Rattle.judgement.specs.Reads.{JudgeFits}
 use Rattle.judgement.specs.Judgement.{judged, judgement}
 use Rattle.kept.specs.declared.Kept.{Kept}
 use Rattle.kept.specs.Kept.{certificateOf, proofOf, kept, refused, answer, outputs, lent, filledIn, after, Lent as KeptLent}
+use Rattle.kept.proofs.Places.{place-written}
 use Rattle.kept.proofs.Fits.{certificate-fits, combined-lent, judge-fits}
 
--- ---- the places below count, of what is written over the lent lists
-get-over : {A : Type 0} (count : ℕ) (xs ys : List A) (d : A) (v : ℕ) → count ≤ length xs → v < count → getD (over count xs ys) v d ≡ getD xs v d
-get-over count xs ys d v long less = List·getD-append xs (drop count ys) d v (omega arith)
-
+-- ---- what is written over the lent lists, below count
 over-long : {A : Type 0} (count : ℕ) (xs ys : List A) → count ≤ length xs → count ≤ length (over count xs ys)
 over-long count xs ys long = omega (arith, length-append xs (drop count ys))
 
 module _ (estimated : Bool) {count : ℕ} (c : Certificate) (l : Lists) (e : List Float) (long : Lent count (c .lists-of) (c .errors)) where
   error-written : (b : Bool) (v : ℕ) → v < count → cond b (getD (cond b (over count (c .errors) e) e) v nan) plusZero ≡ cond b (getD (c .errors) v nan) plusZero
-  error-written true v less = get-over count (c .errors) e nan v (long .in-errors) less
+  error-written true v less = place-written (c .errors) e nan (long .in-errors) v less
   error-written false v less = refl
 
   coefficient-written : (v : ℕ) → v < count
@@ -44,10 +42,10 @@ module _ (estimated : Bool) {count : ℕ} (c : Certificate) (l : Lists) (e : Lis
   unfolding written
   coefficient-written v less =
       rw (
-        get-over count (c .lists-of .high) (l .high) nan v (long .long .in-high) less,
-        get-over count (c .lists-of .low) (l .low) nan v (long .long .in-low) less,
-        get-over count (c .lists-of .magnitudes) (l .magnitudes) nan v (long .long .in-magnitudes) less,
-        get-over count (c .lists-of .terms) (l .terms) 0 v (long .long .in-terms) less,
+        place-written (c .lists-of .high) (l .high) nan (long .long .in-high) v less,
+        place-written (c .lists-of .low) (l .low) nan (long .long .in-low) v less,
+        place-written (c .lists-of .magnitudes) (l .magnitudes) nan (long .long .in-magnitudes) v less,
+        place-written (c .lists-of .terms) (l .terms) 0 (long .long .in-terms) v less,
         error-written estimated v less,
       )
       refl

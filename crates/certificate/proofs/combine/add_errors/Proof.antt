@@ -3,7 +3,7 @@ use borrow.Author.Needs.{needs}
 use Prim.Native.Nat.{_-_}
 use lib.ListN.{length}
 use Rattle.certificate.specs.Certificate.{afterErrors}
-use Rattle.multipliers.proofs.Turns.{Turn, done}
+use Rattle.exact.proofs.Turns.{Turn, done}
 use Rattle.certificate.proofs.Turns.{first-error, error-asks, next-error, errors-same}
 use Rattle.certificate.proofs.combine.add_errors.Statement.{statement}
 use Rattle.certificate.proofs.combine.add_errors.Tie as tie

@@ -5,7 +5,7 @@ use Prim.Native.Nat.{_-_}
 use lib.Ieee.{ofBits}
 use Rattle.certificate.specs.System.{system}
 use Rattle.certificate.specs.Certificate.{afterRows, certificate, lists, noSums}
-use Rattle.multipliers.proofs.Turns.{Turn, done}
+use Rattle.exact.proofs.Turns.{Turn, done}
 use Rattle.certificate.proofs.Rows.{first-row, rows-same, errors-same, row-goes-on, next-row}
 use Rattle.certificate.proofs.combine.add_rows.Statement.{statement}
 use Rattle.certificate.proofs.combine.add_rows.Tie as tie

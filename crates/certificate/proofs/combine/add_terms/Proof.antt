@@ -3,7 +3,7 @@ use borrow.Author.Needs.{needs}
 use Prim.Native.Nat.{_-_}
 use lib.ListN.{length}
 use Rattle.certificate.specs.Certificate.{afterTerms, lists}
-use Rattle.multipliers.proofs.Turns.{Turn, done}
+use Rattle.exact.proofs.Turns.{Turn, done}
 use Rattle.certificate.proofs.Turns.{first-term, term-asks, next-term, terms-same}
 use Rattle.certificate.proofs.combine.add_terms.Statement.{statement}
 use Rattle.certificate.proofs.combine.add_terms.Tie as tie

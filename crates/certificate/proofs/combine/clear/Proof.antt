@@ -6,7 +6,7 @@ use native.Mathlib.Omega.{arith}
 use mathlib.Core.Path.{refl}
 use Rattle.cdouble.specs.Compensated.{plusZero}
 use Rattle.certificate.specs.Certificate.{filled}
-use Rattle.multipliers.proofs.Turns.{Turn, done}
+use Rattle.exact.proofs.Turns.{Turn, done}
 use Rattle.certificate.proofs.Turns.{first-place, next-place, places-same}
 use Rattle.certificate.proofs.combine.clear.Statement.{statement}
 use Rattle.certificate.proofs.combine.clear.Tie as tie

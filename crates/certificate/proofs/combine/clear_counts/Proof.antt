@@ -4,7 +4,7 @@ use Prim.Native.Nat.{_-_}
 use native.Mathlib.Omega.{arith}
 use mathlib.Core.Path.{refl}
 use Rattle.certificate.specs.Certificate.{filled}
-use Rattle.multipliers.proofs.Turns.{Turn, done}
+use Rattle.exact.proofs.Turns.{Turn, done}
 use Rattle.certificate.proofs.Turns.{first-place, next-place, places-same}
 use Rattle.certificate.proofs.combine.clear_counts.Statement.{statement}
 use Rattle.certificate.proofs.combine.clear_counts.Tie as tie

@@ -6,12 +6,13 @@ use lib.Ieee.{Float, ofBits}
 use lib.ListN.{length}
 use Rattle.cdouble.specs.Compensated.{plusZero}
 use Rattle.edges.specs.Activity.{activity, afterEntries, rowActivity}
-use Rattle.edges.proofs.Loops.{Entered, none-entered, one-entered, all-entered}
+use Rattle.exact.proofs.Turns.{Turn, done}
+use Rattle.edges.proofs.Loops.{none-entered, one-entered}
 use Rattle.edges.proofs.activity.row_activity.Statement.{statement}
 use Rattle.edges.proofs.activity.row_activity.Tie as tie
 
 abbrev Inv-loop : tie.InvT-loop
-Inv-loop structurals right-side columns entries values a₀ k₀ a k = Entered structurals values columns entries a₀ k a
+Inv-loop structurals right-side columns entries values a₀ k₀ a k = Turn (λ n. afterEntries structurals values columns entries n a₀) (length columns) k a
 
 abbrev μ-loop : tie.MeasureT-loop
 μ-loop structurals right-side columns entries values a₀ k₀ a k = length columns - k
@@ -44,11 +45,11 @@ loop-less : tie.Need-loop-less Inv-loop μ-loop
 loop-less c = search needs
 
 loop-again : tie.Need-loop-again Inv-loop μ-loop
-loop-again c = one-entered (c .before .before .before .before .loop .inv) (c .before .before .before .loop-test .taken) (c .with-entry .ensures)
+loop-again c = one-entered (c .before .before .before .before .before .before .before .before .before .args .structurals) (c .before .before .before .before .before .before .before .before .before .args .values .now) (c .before .before .before .before .before .before .before .before .before .args .columns .now) (c .before .before .before .before .before .before .before .before .before .args .entries .now) _ (c .before .before .before .before .loop .inv) (c .before .before .before .loop-test .taken) (c .with-entry .ensures)
 
 returns : tie.Need-returns Inv-loop μ-loop
 unfolding rowActivity ofBits
-returns c = all-entered (c .before .loop .inv) (c .loop-test .left) ∙ ap (λ (x : Float). afterEntries (c .before .before .before .before .before .before .args .structurals) (c .before .before .before .before .before .before .args .values .now) (c .before .before .before .before .before .before .args .columns .now) (c .before .before .before .before .before .before .args .entries .now) (length (c .before .before .before .before .before .before .args .columns .now)) (activity plusZero x)) (c .before .before .abs .ensures)
+returns c = done (c .before .loop .inv) (c .loop-test .left) ∙ ap (λ (x : Float). afterEntries (c .before .before .before .before .before .before .args .structurals) (c .before .before .before .before .before .before .args .values .now) (c .before .before .before .before .before .before .args .columns .now) (c .before .before .before .before .before .before .args .entries .now) (length (c .before .before .before .before .before .before .args .columns .now)) (activity plusZero x)) (c .before .before .abs .ensures)
 
 pub row-activity-spec : {M : Type 1} → statement M
 row-activity-spec =

@@ -6,7 +6,8 @@ use Prim.Native.Nat.{_-_}
 use lib.ListN.{length}
 use Rattle.cdouble.specs.Compensated.{value}
 use Rattle.multipliers.specs.Refinement.{finiteMaxNorm, normWith, rhoAt}
-use Rattle.multipliers.proofs.Turns.{Turn, first, next-number, done}
+use Rattle.exact.proofs.Turns.{Turn, first, done}
+use Rattle.multipliers.proofs.Turns.{next-number}
 use Rattle.multipliers.proofs.refinement.rho_norm.Statement.{statement}
 use Rattle.multipliers.proofs.refinement.rho_norm.Tie as tie
 

@@ -4,7 +4,8 @@ use lib.Ieee.{ofBits, nan}
 use Prim.Native.Nat.{_-_}
 use lib.ListN.{length, getD}
 use Rattle.multipliers.specs.Refinement.{finiteMaxNorm}
-use Rattle.multipliers.proofs.Turns.{Turn, first, next-number, done}
+use Rattle.exact.proofs.Turns.{Turn, first, done}
+use Rattle.multipliers.proofs.Turns.{next-number}
 use Rattle.multipliers.proofs.refinement.second_norm.Statement.{statement}
 use Rattle.multipliers.proofs.refinement.second_norm.Tie as tie
 
