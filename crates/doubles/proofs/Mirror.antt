@@ -64,7 +64,7 @@ mirror-up l z =
     ∙ up-zero l z)
 
 -- ---- the law of `roundDown`
-nan-neg : (d : Float) → isNan (neg d) ≡ isNan d
+pub nan-neg : (d : Float) → isNan (neg d) ≡ isNan d
 unfolding isNan neg
 nan-neg nan = refl
 nan-neg (inf s) = refl

@@ -27,7 +27,7 @@ use Rattle.doubles.proofs.Directed.{round-up-law}
 use Rattle.doubles.proofs.Mirror.{mirror, mirror-up, up-zero, down-zero, round-down-law}
 
 -- a double that is no NaN and not one infinity is finite or the other
-finite-or : (s : Bool) (x : Float) → T (not (isNan x)) → (x ≡ inf (not s) → ⊥) → T (finite x) ⊎ (x ≡ inf s)
+pub finite-or : (s : Bool) (x : Float) → T (not (isNan x)) → (x ≡ inf (not s) → ⊥) → T (finite x) ⊎ (x ≡ inf s)
 unfolding isNan
 finite-or s nan h k = absurd h
 finite-or true (inf true) h k = inr refl

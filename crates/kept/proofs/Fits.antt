@@ -1,86 +1,37 @@
 -- What the functions ask of a sheet, on an accepted one. Assumes nothing.
 use native.Mathlib.Omega.{arith}
-use mathlib.Core.Path.{_≡_, sym, subst, _∙_}
+use mathlib.Core.Path.{_≡_, sym, subst}
 use mathlib.Core.Bool.{true}
-use mathlib.Core.Logic.{inl, inr}
 use mathlib.Core.List.{List, [], _∷_}
 use Prim.Native.Nat.{ℕ, _+_, _-_, _<_, _≤_, _^_}
-use borrow.Author.Tests.{eqb-true, leb-true, ltb-true}
-use lib.Dec.{eqb, leb, ltb}
+use borrow.Author.Tests.{leb-true}
+use lib.Dec.{leb}
 use lib.ListN.{length, getD, length-replicate, getD-replicate}
 use lib.Ieee.{Float}
-use Rattle.exact.proofs.Naturals.{le-or-lt}
 use Rattle.cdouble.specs.Compensated.{plusZero}
-use Rattle.questions.specs.Places.{allBelow}
-use Rattle.questions.specs.Rows.{slackOf}
-use Rattle.questions.specs.Questions.{columnFineAt, rowColumnsFine, rowColumnsFineAt, columnsFine}
-use Rattle.questions.proofs.All.{each, all-at, and-left}
+use Rattle.questions.proofs.All.{each}
 use Rattle.sheet.specs.Sheet.{Sheet, variables}
 use Rattle.sheet.specs.Answers.{Accepted}
 use Rattle.sheet.specs.Lengths.{outputsFit}
-use Rattle.sheet.proofs.Accepted.{AllYes, all-yes, rows-lie, sizes-hold}
+use Rattle.sheet.proofs.Accepted.{AllYes, all-yes, sizes-hold}
 use Rattle.sheet.proofs.Consequences.{lengths, by-row, by-variable}
 use Rattle.edges.specs.Model.{modelOf}
 use Rattle.edges.specs.Edges.{leavingVariable}
 use Rattle.edges.proofs.Laws.{readable, leaving-holds}
-use Rattle.certificate.specs.System.{systemOf, rowColumns}
+use Rattle.certificate.specs.System.{systemOf}
 use Rattle.certificate.specs.Certificate.{Lists, empty, combined}
-use Rattle.certificate.specs.Reads.{Lent, Within, RowReadable, RowsGoOn, CertificateFits}
+use Rattle.certificate.specs.Reads.{Lent, RowsGoOn, CertificateFits}
 use Rattle.certificate.proofs.Rows.{rows-counted}
+use Rattle.certificate.proofs.Readable.{lie, row-readable}
 use Rattle.judgement.specs.Reads.{JudgeFits}
 use Rattle.certificate.specs.declared.combine.Sums.{Sums}
 use Rattle.sheet.specs.declared.answers.Outputs.{Outputs}
-use Rattle.questions.specs.Rows.{RowsLie}
 use Rattle.certificate.proofs.Lengths.{after-rows-same, lent-same}
 use Rattle.kept.specs.Kept.{outputs, certificateOf}
-
--- ---- 5: a row's columns are variables
-columns-within : (structurals slack : ℕ) (columns : List ℕ) → structurals ≤ slack → rowColumnsFine structurals slack columns ≡ true → (k : ℕ) → k < length columns → getD columns k 0 ≤ slack
-unfolding rowColumnsFine
-columns-within structurals slack columns below fine k less =
-    let h = each (leb 1 (length columns)) (allBelow (length columns - 1) (columnFineAt structurals columns) ∷ eqb (getD columns (length columns - 1) 0) slack ∷ []) fine in
-    elim (le-or-lt (length columns - 1) k) [
-      | inl last ↦ let e : k ≡ length columns - 1 = omega arith in rw e (omega (arith, eqb-true (getD columns (length columns - 1) 0) slack (h .1 .1 .0)))
-      | inr before ↦
-          omega (
-            arith,
-            ltb-true (getD columns k 0) structurals
-                (and-left (ltb (getD columns k 0) structurals) (ltb (getD columns k 0) (getD columns (k + 1) 0)) (all-at (columnFineAt structurals columns) (length columns - 1) (h .1 .0) k before)),
-          )
-    ]
 
 module _ (s : Sheet) (accepted : Accepted s) where
   all : AllYes s
   all = all-yes s accepted
-
-  row-within : (r : ℕ) → r < s .rows → Within (variables s) (rowColumns (systemOf s) r)
-  unfolding columnsFine
-  row-within r less k below =
-      omega (
-        arith,
-        columns-within (s .structurals) (slackOf (s .structurals) r) (rowColumns (systemOf s) r) (omega arith) (all-at (rowColumnsFineAt (s .structurals) (s .starts) (s .columns)) (s .rows) (all .columns-fine) r less) k below,
-      )
-
-  lie : RowsLie (s .rows) (s .entryCount) (s .starts)
-  lie = rows-lie (s .rows) (s .entryCount) (s .starts) (all .starts-fine) (by-row s all .starts-long)
-
-  row-readable : (r : ℕ) → r < s .rows → RowReadable (systemOf s) r (variables s)
-  row-readable r less =
-      record {
-        slack = omega arith;
-        in-starts = omega (arith, by-row s all .starts-long);
-        rises = lie .rises r less;
-        inside = omega (arith, lie .inside r less, by-row s all .columns-long);
-        same = by-row s all .entries-long ∙ sym (by-row s all .columns-long);
-        within = row-within r less;
-        in-right-sides = omega (arith, by-row s all .right-sides-long);
-        in-mins = omega (arith, by-variable s all .mins-long);
-        in-maxs = omega (arith, by-variable s all .maxs-long);
-        in-basic = omega (arith, by-variable s all .basic-long);
-        in-rho-hi = omega (arith, by-row s all .rho-hi-long);
-        in-rho-lo = omega (arith, by-row s all .rho-lo-long);
-        in-second = omega (arith, by-row s all .second-long);
-      }
 
   pub small : s .rows + length (s .columns) < 2 ^ 32
   small = let h = sizes-hold (s .rows) (s .structurals) (s .entryCount) (all .sizes-fine) in omega (arith, h .rows-most, h .entries-most, by-row s all .columns-long)
@@ -110,7 +61,7 @@ module _ (s : Sheet) (accepted : Accepted s) where
         }
 
     pub certificate-fits : CertificateFits (systemOf s) (s .rows) (variables s) l e
-    certificate-fits = record { readable = row-readable; lent = lent-long; small = small }
+    certificate-fits = record { readable = row-readable s accepted; lent = lent-long; small = small }
 
   -- ---- the empty certificate, and the one of the sheet
   empty-lent : Lent (variables s) (empty (variables s) .lists-of) (empty (variables s) .errors)
@@ -128,7 +79,7 @@ module _ (s : Sheet) (accepted : Accepted s) where
       }
 
   empty-goes-on : RowsGoOn (systemOf s) (s .rows) (variables s) (empty (variables s) .lists-of) (empty (variables s) .errors)
-  empty-goes-on = record { readable = row-readable; lent = empty-lent; none = λ v less. getD-replicate (variables s) v 0 0 less; small = small }
+  empty-goes-on = record { readable = row-readable s accepted; lent = empty-lent; none = λ v less. getD-replicate (variables s) v 0 0 less; small = small }
 
   pub combined-lent : Lent (variables s) (certificateOf s .lists-of) (certificateOf s .errors)
   unfolding certificateOf combined
@@ -138,7 +89,7 @@ module _ (s : Sheet) (accepted : Accepted s) where
   last-start =
       let some = sizes-hold (s .rows) (s .structurals) (s .entryCount) (all .sizes-fine) .some in
       let e : s .rows - 1 + 1 ≡ s .rows = omega arith in
-      subst (λ (r : ℕ). getD (s .starts) r 0 ≤ s .entryCount) e (lie .inside (s .rows - 1) (omega arith))
+      subst (λ (r : ℕ). getD (s .starts) r 0 ≤ s .entryCount) e (lie s accepted .inside (s .rows - 1) (omega arith))
 
   terms-small : certificateOf s .sums-of .terms + variables s < 2 ^ 64
   unfolding certificateOf combined

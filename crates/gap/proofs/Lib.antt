@@ -1,0 +1,16 @@
+pub mod Example
+pub mod Sound
+pub mod Accepted
+pub mod Term
+pub mod InOrder
+pub mod Sides
+pub mod Bounds
+pub mod TakenEdge
+pub mod Taken
+pub mod NeverAbove
+pub mod LargestValue
+pub mod Inequality
+pub mod NoPoint
+pub mod Agreement
+pub mod Narrowing
+pub mod ThirdDemand
