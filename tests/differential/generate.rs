@@ -2,7 +2,7 @@
 use crate::rust::{answer, Walk};
 use crate::sheet::Sheet;
 
-pub const CLASSES: [&str; 11] = [
+pub const CLASSES: [&str; 12] = [
     "small whole numbers",
     "ordinary doubles",
     "near-dependent rows",
@@ -14,6 +14,7 @@ pub const CLASSES: [&str; 11] = [
     "limits of size",
     "refused",
     "widened sides",
+    "lost in rounding",
 ];
 
 const UNIT: f64 = f64::EPSILON / 2.0;
@@ -544,17 +545,21 @@ fn dependent(rng: &mut Rng, sheet: &mut Sheet, exact: bool) {
     }
 }
 
-/// A structural variable with an infinite side whose coefficient is about what counts as zero: the low part of one of
-/// two opposite multipliers.
-fn brink(rng: &mut Rng, sheet: &mut Sheet) {
-    let shared = (0..sheet.structurals).find_map(|var| {
+/// The first structural variable that two rows contain, with those rows and where they have its entry.
+fn shared(sheet: &Sheet) -> Option<(usize, Vec<(usize, usize)>)> {
+    (0..sheet.structurals).find_map(|var| {
         let rows: Vec<(usize, usize)> = (0..sheet.rows)
             .flat_map(|r| sheet.part(r).map(move |at| (r, at)))
             .filter(|&(_, at)| sheet.columns[at] == var)
             .collect();
         (rows.len() >= 2).then(|| (var, rows))
-    });
-    let Some((var, rows)) = shared else { return };
+    })
+}
+
+/// A structural variable with an infinite side whose coefficient is about what counts as zero: the low part of one of
+/// two opposite multipliers.
+fn brink(rng: &mut Rng, sheet: &mut Sheet) {
+    let Some((var, rows)) = shared(sheet) else { return };
     // others contain it not at all
     for &(_, at) in &rows[2..] {
         sheet.entries[at] = 0.0;
@@ -738,6 +743,75 @@ fn scramble(rng: &mut Rng, sheet: &mut Sheet) {
     }
 }
 
+/// No side has any room: no tolerances, and every side of a slack widened. So the judgement holds from about its own
+/// rounding on.
+fn without_room(sheet: &mut Sheet) {
+    sheet.low_tolerances.fill(0.0);
+    sheet.high_tolerances.fill(0.0);
+    sheet.feasibility = 0.0;
+    let slacks = sheet.structurals..sheet.structurals + sheet.rows;
+    sheet.widened_vars = slacks.flat_map(|slack| [slack, slack]).collect();
+    sheet.widened_ups = [0, 1].repeat(sheet.rows);
+}
+
+/// Low parts of all digits for every multiplier.
+fn low_parts(rng: &mut Rng, sheet: &mut Sheet) {
+    for r in 0..sheet.rows {
+        let part = f64::from_bits(1022 << 52 | rng.next() >> 12) * rng.sign();
+        put_y_low(sheet, r, sheet.y(r) * UNIT * part);
+    }
+}
+
+/// A structural variable whose terms cancel, with no product that is a double. Bounds that are rounded outward leave it a
+/// coefficient, which an infinite side or a huge one makes much of.
+fn cancelled(rng: &mut Rng, sheet: &mut Sheet) {
+    let Some((var, rows)) = shared(sheet) else { return };
+    for &(_, at) in &rows[2..] {
+        sheet.entries[at] = 0.0;
+    }
+    // with three bits to spare, so that the multiples are doubles
+    let short = |x: f64| f64::from_bits(x.to_bits() & !7);
+    let (y, entry) = (short(number(rng, Ordinary)), short(number(rng, Ordinary)));
+    let factor = rng.pick(&[3.0, 5.0, 7.0]);
+    for (&(r, at), (y, entry)) in rows.iter().zip([(factor * y, entry), (-y, factor * entry)]) {
+        sheet.entries[at] = entry;
+        put_y(sheet, r, y);
+        put_y_low(sheet, r, 0.0);
+        let slack = sheet.structurals + r;
+        (sheet.mins[slack], sheet.maxs[slack]) = (0.0, 0.0);
+    }
+    let huge = power(rng.within(45, 60));
+    let infinity = f64::INFINITY;
+    (sheet.mins[var], sheet.maxs[var]) =
+        rng.pick(&[(-infinity, infinity), (0.0, infinity), (-infinity, 1.0), (-huge, huge), (0.0, huge)]);
+    aim(rng, sheet);
+}
+
+/// Numbers about the largest double: outward a product or a running sum is infinite where the exact gap need not be.
+fn beyond(rng: &mut Rng, sheet: &mut Sheet) {
+    let huge = |rng: &mut Rng| rng.sign() * rng.pick(&[f64::MAX, f64::MAX, f64::MAX / 2.0, power(1022), 1.0]);
+    let (entries, bounds, right_sides) = (rng.percent(40), rng.percent(40), rng.percent(60));
+    for at in 0..sheet.entry_count {
+        if entries && sheet.columns[at] < sheet.structurals {
+            sheet.entries[at] = huge(rng);
+        }
+    }
+    for var in 0..sheet.structurals {
+        if bounds {
+            (sheet.mins[var], sheet.maxs[var]) = ordered(huge(rng), huge(rng));
+        }
+    }
+    for r in 0..sheet.rows {
+        put_y(sheet, r, rng.sign() * power(rng.within(-1, 1)));
+        put_y_low(sheet, r, 0.0);
+        let slack = sheet.structurals + r;
+        (sheet.mins[slack], sheet.maxs[slack]) = (0.0, 0.0);
+        if right_sides {
+            sheet.right_sides[r] = huge(rng);
+        }
+    }
+}
+
 fn small(rng: &mut Rng, bare: bool) -> Size {
     if bare {
         let (rows, structurals) = rng.pick(&[(1, 0), (1, 1), (1, 1), (1, 2), (2, 1), (2, 1), (2, 2), (2, 2), (3, 2)]);
@@ -843,6 +917,12 @@ pub fn sheet(rng: &mut Rng, class: usize, bare: bool) -> Sheet {
             let widened = rng.pick(&[20, 50, 90, 100]);
             plan = Plan { tolerance, bound: kind, widened, nudge: 50, open: 5, aim: 90, ..plan };
         }
+        11 => {
+            size.rows = size.rows.max(rng.pick(&[1, 2, 2, 4]));
+            size.structurals = size.structurals.max(1);
+            (size.dense, size.full) = (size.structurals, rng.percent(80));
+            plan = Plan { open: 0, aim: 0, nudge: 0, checked: 20, ..plan };
+        }
         _ => {}
     }
     // the cut of a long row reaches its margin where the row itself is small
@@ -894,6 +974,22 @@ pub fn sheet(rng: &mut Rng, class: usize, bare: bool) -> Sheet {
             }
         },
         7 => scramble(rng, &mut sheet),
+        11 => match rng.below(8) {
+            0 => beyond(rng, &mut sheet),
+            1 => pinch(rng, &mut sheet),
+            2 | 3 => {
+                without_room(&mut sheet);
+                cancelled(rng, &mut sheet);
+            }
+            _ => {
+                without_room(&mut sheet);
+                if rng.percent(60) {
+                    low_parts(rng, &mut sheet);
+                }
+                aim(rng, &mut sheet);
+                nudge(rng, &mut sheet);
+            }
+        },
         _ => {}
     }
     // a leaving slack whose row is dropped
@@ -1106,8 +1202,9 @@ fn damage(rng: &mut Rng, sheet: &mut Sheet, question: usize, bare: bool) {
 
 /// Which class a sheet of a run is of: each in turn, those at the limits of size more rarely since they are dear.
 pub fn class_of(sheet: u64) -> usize {
-    let class = (sheet % 11) as usize;
-    if class == 8 && sheet / 11 % 50 != 0 { 1 } else { class }
+    let classes = CLASSES.len() as u64;
+    let class = (sheet % classes) as usize;
+    if class == 8 && sheet / classes % 50 != 0 { 1 } else { class }
 }
 
 /// Sheets for the timing: entries in all, and whether checked. They hold, and every walk goes through.

@@ -1,7 +1,8 @@
 //! Compares the kept reckoning with the Rust that it follows, on sheets made from a seed.
 //!
 //!     --seed N --sheets N   compares on so many sheets; ends with 1 if anything differs
-//!     --store N             prints at least N sheets with the Rust's answers, as the stored list has them
+//!     --store N             prints at least N sheets with the Rust's answers, as the stored list has them but for the
+//!                           gaps, which tests/outward adds
 //!     --show N              prints sheet N of the seed, with the Rust's answer
 //!     --bench               times the kept reckoning here and there
 //!

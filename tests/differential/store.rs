@@ -1,4 +1,5 @@
-//! The stored list: sheets with the Rust's answers, in lines of a letter and eight numbers.
+//! The stored list but for the gaps, which tests/outward adds: sheets with the Rust's answers, in lines of a letter and
+//! eight numbers.
 //!
 //!     S rows structurals entries widened extra class 0 0
 //!     D slice place n x x x x x
@@ -166,6 +167,14 @@ fn wanted(sheet: &Sheet, expected: &Expected, round: usize) -> bool {
         6 if round % 2 == 0 => !answer.gap.is_finite() || answer.low.iter().any(|low| !low.is_finite()),
         7 => sheet.rho_hi.iter().chain(&sheet.rho_lo).any(|x| !x.is_finite()) == (round % 3 != 0),
         10 => !sheet.widened_vars.is_empty() && (answer.holds || round % 2 == 0),
+        11 if round % 6 == 0 => !answer.gap.is_finite(),
+        // by less than what the leaving slack's room was cut by
+        11 if round % 6 == 1 => answer.holds && answer.gap < answer.allowance + answer.cut,
+        11 => {
+            let most = answer.magnitudes.iter().fold(0.0, |most: f64, &x| most.max(x));
+            let cancelled = answer.high.iter().zip(&answer.magnitudes).any(|(&high, &x)| high == 0.0 && x > 0.0);
+            answer.holds && (cancelled || answer.gap <= 1e-13 * most)
+        }
         _ => answer.holds || round % 2 == 0,
     }
 }
@@ -221,14 +230,19 @@ pub fn print(seed: u64, sheets: usize) {
         }
         print!("{}", lines(&sheet, &expected));
     }
-    let turn = [0, 9, 1, 2, 3, 4, 5, 9, 6, 7, 10];
+    let turn = [0, 9, 1, 2, 3, 11, 4, 5, 9, 6, 7, 10, 11];
     while stored + MODERATE < sheets.max(MODERATE + 1) {
         tries += 1;
         let mut rng = Rng::of(seed, tries);
         let class = turn[stored % turn.len()];
-        let most = if class == 9 { rng.pick(&[9, 11, 13]) } else { rng.pick(&[14, 15, 15, 16, 16, 19]) };
+        let most = match class {
+            9 => rng.pick(&[9, 11, 13]),
+            11 => rng.pick(&[21, 21, 40]),
+            _ => rng.pick(&[14, 15, 15, 16, 16, 19]),
+        };
         let made = sheet(&mut rng, class, true);
-        let made = strip(&mut rng, made);
+        // the Rust's answer does not show what rounding outward loses, so such a sheet stays as it is
+        let made = if class == 11 { made } else { strip(&mut rng, made) };
         let expected = expected(&made);
         let text = lines(&made, &expected);
         if text.lines().count() <= most && wanted(&made, &expected, rounds[class]) {

@@ -97,6 +97,20 @@ right-side-row-same a b f r {c} {d} e =
     (λ y z p q parts. scaled-same sumDown (roundDown 1074) y z p q parts a b f r e)
     (λ y z parts. e) (λ y parts. e) (λ z parts. e) (λ parts. e)
 
+-- ---- the walk over the variables sees their ends alone
+module _ (lower upper other-lower other-upper : ℕ → Float) (g : Ranges) where
+  abbrev SameEnds : ℕ → Type 0
+  SameEnds n = (v : ℕ) → v < n → (lower v ≡ other-lower v) × (upper v ≡ other-upper v)
+
+  pub limits-same : (n : ℕ) → SameEnds n → allBelow n (limitedAt lower upper g) ≡ allBelow n (limitedAt other-lower other-upper g)
+  limits-same n same =
+      all-same (limitedAt lower upper g) (limitedAt other-lower other-upper g) n (λ v less. ap₂ (λ (l u : Float). limited l u (g .low v) (g .high v)) (same v less .0) (same v less .1))
+
+  pub largest-same : (n : ℕ) → SameEnds n → largest lower upper g n ≡ largest other-lower other-upper g n
+  unfolding largest
+  largest-same zero same = refl
+  largest-same (suc n) same = cc (same n (omega arith) .0, same n (omega arith) .1, largest-same n (λ v less. same v (omega arith)))
+
 -- ---- all rows
 module _ (kept other : KeptRows) (m n : Rows) (sound : SoundRows m) (rows : SameRows m n) (same : SameKept (m .count) kept other) where
   pub parts-same : allBelow (m .count) (λ r. finiteParts (kept r)) ≡ allBelow (n .count) (λ r. finiteParts (other r))
@@ -132,22 +146,18 @@ module _ (kept other : KeptRows) (m n : Rows) (sound : SoundRows m) (rows : Same
     pub right-side-same : rightSide kept m (m .count) ≡ rightSide other n (n .count)
     right-side-same = right-side-after (m .count) (le-refl (m .count)) ∙ ap (rightSide other n) (sym (rows .count-same))
 
-    largest-after : (g : Ranges) (k : ℕ) → largest kept m g k ≡ largest other n g k
-    unfolding largest
-    largest-after g zero = refl
-    largest-after g (suc k) = cc (cl-same k, cu-same k, largest-after g k)
-
   -- ---- the gap in the same ranges
   pub gap-same : (g : Ranges) → outwardGap kept m g ≡ outwardGap other n g
   unfolding outwardGap
   gap-same g =
       let each = parts-finite kept (m .count) in
+      let ends : allBelow (m .count) (λ r. finiteParts (kept r)) ≡ true → (v : ℕ) → v < m .variables → (cl kept m v ≡ cl other n v) × (cu kept m v ≡ cu other n v) = λ all v less. (cl-same (each all) v, cu-same (each all) v) in
       where-all (allBelow (m .count) (λ r. finiteParts (kept r))) (inf true)
+      (λ all. limits-same (cl kept m) (cu kept m) (cl other n) (cu other n) g (m .variables) (ends all) ∙ ap (λ (k : ℕ). allBelow k (limitedAt (cl other n) (cu other n) g)) (sym (rows .variables-same)))
       (λ all.
-      all-same (limitedAt kept m g) (limitedAt other n g) (m .variables) (λ v less. ap₂ (λ (l u : Float). limited l u (g .low v) (g .high v)) (cl-same (each all) v) (cu-same (each all) v))
-      ∙ ap (λ (k : ℕ). allBelow k (limitedAt other n g)) (sym (rows .variables-same)))
-      (λ all. ap₂ difference (right-side-same (each all)) (largest-after (each all) g (m .variables) ∙ ap (largest other n g) (sym (rows .variables-same))))
-      ∙ ap (λ (all : Bool). cond (all && allBelow (n .variables) (limitedAt other n g)) (difference (rightSide other n (n .count)) (largest other n g (n .variables))) (inf true)) parts-same
+      ap₂ difference (right-side-same (each all))
+      (largest-same (cl kept m) (cu kept m) (cl other n) (cu other n) g (m .variables) (ends all) ∙ ap (largest (cl other n) (cu other n) g) (sym (rows .variables-same))))
+      ∙ ap (λ (all : Bool). cond (all && allBelow (n .variables) (limitedAt (cl other n) (cu other n) g)) (difference (rightSide other n (n .count)) (largest (cl other n) (cu other n) g (n .variables))) (inf true)) parts-same
     where
       where-all : (all : Bool) {b c : Bool} {x y : Float} (z : Float) → (all ≡ true → b ≡ c) → (all ≡ true → x ≡ y) → cond (all && b) x z ≡ cond (all && c) y z
       where-all true z p q = ap₂ (λ (b : Bool) (x : Float). cond b x z) (p refl) (q refl)

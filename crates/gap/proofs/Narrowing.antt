@@ -147,7 +147,7 @@ difference-is (fin s n e) (fin r k d) t h = refl
 
 -- ---- all variables
 module _ (kept : KeptRows) (m : Rows) (sound : SoundRows m) (parts : (r : ℕ) → r < m .count → T (finiteParts (kept r))) (g h : Ranges)
-    (narrow : SoundRanges (m .variables) g) (wide : SoundRanges (m .variables) h) (within : Within (m .variables) g h) (bounded : (v : ℕ) → v < m .variables → limitedAt kept m h v ≡ true) where
+    (narrow : SoundRanges (m .variables) g) (wide : SoundRanges (m .variables) h) (within : Within (m .variables) g h) (bounded : (v : ℕ) → v < m .variables → limitedAt (cl kept m) (cu kept m) h v ≡ true) where
   narrowed : (v : ℕ) → v < m .variables → Narrowed (cl kept m v) (cu kept m v) (g .low v) (g .high v) (h .low v) (h .high v)
   unfolding limited
   narrowed v less =
@@ -169,20 +169,20 @@ module _ (kept : KeptRows) (m : Rows) (sound : SoundRows m) (parts : (r : ℕ) �
         bounded = bounded v less;
       }
 
-  all-limited : allBelow (m .variables) (limitedAt kept m g) ≡ true
-  all-limited = all-of (limitedAt kept m g) (m .variables) (λ v less. still-limited _ _ _ _ _ _ (narrowed v less))
+  all-limited : allBelow (m .variables) (limitedAt (cl kept m) (cu kept m) g) ≡ true
+  all-limited = all-of (limitedAt (cl kept m) (cu kept m) g) (m .variables) (λ v less. still-limited _ _ _ _ _ _ (narrowed v less))
 
-  largest-order : (k : ℕ) → k ≤ m .variables → InOrder (largest kept m g k) (largest kept m h k)
+  largest-order : (k : ℕ) → k ≤ m .variables → InOrder (largest (cl kept m) (cu kept m) g k) (largest (cl kept m) (cu kept m) h k)
   unfolding largest isNan
   largest-order zero less = record { first-fits = zero-fits; second-fits = zero-fits; order = le-same plusZero tt zero-fits }
   largest-order (suc k) less = with-term-order _ _ _ _ _ _ (narrowed k less) _ _ (largest-order k (omega arith))
 
-  difference-order : T (le (difference (rightSide kept m (m .count)) (largest kept m h (m .variables))) (difference (rightSide kept m (m .count)) (largest kept m g (m .variables))))
+  difference-order : T (le (difference (rightSide kept m (m .count)) (largest (cl kept m) (cu kept m) h (m .variables))) (difference (rightSide kept m (m .count)) (largest (cl kept m) (cu kept m) g (m .variables))))
   difference-order =
       let b = rightSide kept m (m .count) in
       let B = right-side-bounds kept m sound parts in
       let own : InOrder b b = record { first-fits = B .fit; second-fits = B .fit; order = le-same b (B .no-nan) (B .fit) } in
-      rw (difference-is b (largest kept m h (m .variables)) (B .no-nan) (B .no-other), difference-is b (largest kept m g (m .variables)) (B .no-nan) (B .no-other))
+      rw (difference-is b (largest (cl kept m) (cu kept m) h (m .variables)) (B .no-nan) (B .no-other), difference-is b (largest (cl kept m) (cu kept m) g (m .variables)) (B .no-nan) (B .no-other))
       (sum-down-order b b _ _ own (neg-order _ _ (largest-order (m .variables) (le-refl (m .variables)))) .order)
 
 -- ---- the gap
@@ -191,12 +191,12 @@ module _ (kept : KeptRows) (m : Rows) (sound : SoundRows m) where
   AllFinite = allBelow (m .count) (λ r. finiteParts (kept r)) ≡ true
 
   abbrev AllLimited : Ranges → Type 0
-  AllLimited g = allBelow (m .variables) (limitedAt kept m g) ≡ true
+  AllLimited g = allBelow (m .variables) (limitedAt (cl kept m) (cu kept m) g) ≡ true
 
   -- either the steps go through, or the gap is −infinity
   gap-ways : (g : Ranges) → (AllFinite × AllLimited g) ⊎ (outwardGap kept m g ≡ inf true)
   unfolding outwardGap
-  gap-ways g = go (allBelow (m .count) (λ r. finiteParts (kept r))) (allBelow (m .variables) (limitedAt kept m g)) (difference (rightSide kept m (m .count)) (largest kept m g (m .variables)))
+  gap-ways g = go (allBelow (m .count) (λ r. finiteParts (kept r))) (allBelow (m .variables) (limitedAt (cl kept m) (cu kept m) g)) (difference (rightSide kept m (m .count)) (largest (cl kept m) (cu kept m) g (m .variables)))
     where
       go : (a b : Bool) (x : Float) → ((a ≡ true) × (b ≡ true)) ⊎ (cond (a && b) x (inf true) ≡ inf true)
       go true true x = inl (refl, refl)
@@ -207,7 +207,7 @@ module _ (kept : KeptRows) (m : Rows) (sound : SoundRows m) where
   unfolding outwardGap
   order-where-limited g h narrow wide within all bounded =
       let parts = parts-finite kept (m .count) all in
-      let limits = all-at (limitedAt kept m h) (m .variables) bounded in
+      let limits = all-at (limitedAt (cl kept m) (cu kept m) h) (m .variables) bounded in
       rw (all, bounded, all-limited kept m sound parts g h narrow wide within limits) (difference-order kept m sound parts g h narrow wide within limits)
 
   same-rows-narrowing : (g h : Ranges) → SoundRanges (m .variables) g → SoundRanges (m .variables) h → Within (m .variables) g h → T (le (outwardGap kept m h) (outwardGap kept m g))

@@ -35,7 +35,7 @@ failed false x f = refl
 
 module _ (kept : KeptRows) (m : Rows) (g : Ranges) (sound : SoundRows m) (ranges : SoundRanges (m .variables) g) where
   -- ---- where no step gives −infinity
-  module _ (parts : allBelow (m .count) (λ r. finiteParts (kept r)) ≡ true) (limits : allBelow (m .variables) (limitedAt kept m g) ≡ true) where
+  module _ (parts : allBelow (m .count) (λ r. finiteParts (kept r)) ≡ true) (limits : allBelow (m .variables) (limitedAt (cl kept m) (cu kept m) g) ≡ true) where
     finite-parts : (r : ℕ) → r < m .count → T (finiteParts (kept r))
     finite-parts = parts-finite kept (m .count) parts
 
@@ -43,7 +43,7 @@ module _ (kept : KeptRows) (m : Rows) (g : Ranges) (sound : SoundRows m) (ranges
         × ((sum : Float) (z : ℤ) → Bounds upward 2148 z sum → Bounds upward 2148 (z +ℤ coefficient kept m v *ℤ exact (takenAt kept m g v)) (withTerm (cl kept m v) (cu kept m v) (g .low v) (g .high v) sum))
     at-variable v less =
         with-term (cl kept m v) (cu kept m v) (g .low v) (g .high v) (coefficient kept m v) (cl-bounds kept m sound finite-parts v) (cu-bounds kept m sound finite-parts v) (ranges v less)
-        (all-at (limitedAt kept m g) (m .variables) limits v less)
+        (all-at (limitedAt (cl kept m) (cu kept m) g) (m .variables) limits v less)
 
     finite-taken : allBelow (m .variables) (λ v. finite (takenAt kept m g v)) ≡ true
     finite-taken = all-of (λ v. finite (takenAt kept m g v)) (m .variables) λ v less. is-true (finite (takenAt kept m g v)) (at-variable v less .0)
@@ -52,12 +52,12 @@ module _ (kept : KeptRows) (m : Rows) (g : Ranges) (sound : SoundRows m) (ranges
     exactLargest = Σ< (m .variables) (λ v. coefficient kept m v *ℤ exact (takenAt kept m g v))
 
     -- M is not below the exact largest value
-    pub largest-bounds : Bounds upward 2148 exactLargest (largest kept m g (m .variables))
+    pub largest-bounds : Bounds upward 2148 exactLargest (largest (cl kept m) (cu kept m) g (m .variables))
     unfolding largest
     largest-bounds =
         rw +ℤ-idl at
-        (bounds-run upward 2148 (largest kept m g) (λ v. coefficient kept m v *ℤ exact (takenAt kept m g v)) (pos 0) (m .variables) (bounds-zero upward 2148)
-        (λ v less z Z. at-variable v less .1 (largest kept m g v) z Z))
+        (bounds-run upward 2148 (largest (cl kept m) (cu kept m) g) (λ v. coefficient kept m v *ℤ exact (takenAt kept m g v)) (pos 0) (m .variables) (bounds-zero upward 2148)
+        (λ v less z Z. at-variable v less .1 (largest (cl kept m) (cu kept m) g v) z Z))
 
     -- there is an exact gap
     exact-gap-is : exactGap kept m g ≡ some (inUnits (combinedRightSide kept m) -ℤ exactLargest)
@@ -65,11 +65,11 @@ module _ (kept : KeptRows) (m : Rows) (g : Ranges) (sound : SoundRows m) (ranges
     exact-gap-is = rw (parts, finite-taken)
 
     -- B − M rounded down is not above the exact difference
-    bounds-difference : Bounds downward 2148 (inUnits (combinedRightSide kept m) -ℤ exactLargest) (sumDown (rightSide kept m (m .count)) (neg (largest kept m g (m .variables))))
+    bounds-difference : Bounds downward 2148 (inUnits (combinedRightSide kept m) -ℤ exactLargest) (sumDown (rightSide kept m (m .count)) (neg (largest (cl kept m) (cu kept m) g (m .variables))))
     unfolding inUnits
     bounds-difference =
-        bounds-sum downward 2148 _ _ (rightSide kept m (m .count)) (neg (largest kept m g (m .variables)))
-        (bounds-finer downward 1074 1074 (right-side-bounds kept m sound finite-parts)) (bounds-neg 2148 exactLargest (largest kept m g (m .variables)) largest-bounds)
+        bounds-sum downward 2148 _ _ (rightSide kept m (m .count)) (neg (largest (cl kept m) (cu kept m) g (m .variables)))
+        (bounds-finer downward 1074 1074 (right-side-bounds kept m sound finite-parts)) (bounds-neg 2148 exactLargest (largest (cl kept m) (cu kept m) g (m .variables)) largest-bounds)
 
 -- ---- what the outward gap can be: a double, no NaN and not +infinity
 pub record Shape (x : Float) : Type 0 where
@@ -85,9 +85,9 @@ pub outward-shape : (kept : KeptRows) (m : Rows) (g : Ranges) → SoundRows m �
 unfolding outwardGap difference
 outward-shape kept m g sound ranges =
     let P = allBelow (m .count) (λ r. finiteParts (kept r)) in
-    let Q = allBelow (m .variables) (limitedAt kept m g) in
+    let Q = allBelow (m .variables) (limitedAt (cl kept m) (cu kept m) g) in
     let B = rightSide kept m (m .count) in
-    let M = largest kept m g (m .variables) in
+    let M = largest (cl kept m) (cu kept m) g (m .variables) in
     go (sumDown B (neg M)) (P && Q) (eq B (inf true) || eq M (inf false)) λ e. bounds-difference kept m g sound ranges (and-left P Q e) (and-right P Q e)
   where
     go : {z : ℤ} (x : Float) (q t : Bool) → (q ≡ true → Bounds downward 2148 z x) → Shape (cond q (cond t (inf true) x) (inf true))
@@ -99,9 +99,9 @@ pub never-above : (kept : KeptRows) (m : Rows) (g : Ranges) → SoundRows m → 
 unfolding outwardGap difference
 never-above kept m g sound ranges f =
     let P = allBelow (m .count) (λ r. finiteParts (kept r)) in
-    let Q = allBelow (m .variables) (limitedAt kept m g) in
+    let Q = allBelow (m .variables) (limitedAt (cl kept m) (cu kept m) g) in
     let B = rightSide kept m (m .count) in
-    let M = largest kept m g (m .variables) in
+    let M = largest (cl kept m) (cu kept m) g (m .variables) in
     let tests = passed (P && Q) (difference B M) f in
     let parts = and-left P Q (tests .0) in
     let limits = and-right P Q (tests .0) in

@@ -61,8 +61,9 @@ unlimited l u low high = (lt plusZero u && eq high (inf false)) || (lt l plusZer
 unfoldable pub limited : Float → Float → Float → Float → Bool
 limited l u low high = finite l && finite u && (skipped l u || not (unlimited l u low high))
 
-abbrev pub limitedAt : KeptRows → Rows → Ranges → ℕ → Bool
-limitedAt kept m g v = limited (cl kept m v) (cu kept m v) (g .low v) (g .high v)
+-- of the variable v, whose coefficient lies from lower v to upper v
+abbrev pub limitedAt : (ℕ → Float) → (ℕ → Float) → Ranges → ℕ → Bool
+limitedAt lower upper g v = limited (lower v) (upper v) (g .low v) (g .high v)
 
 -- ---- 4. "its term is the largest of cl, cu times the finite edges, products rounded up"
 abbrev pub atEdge : Float → Float → Float → Float
@@ -77,9 +78,9 @@ unfoldable pub withTerm : Float → Float → Float → Float → Float → Floa
 withTerm l u low high sum = cond (skipped l u) sum (sumUp sum (term l u low high))
 
 -- "M adds the terms from 0 in variable order, rounded up": of the first n variables
-unfoldable pub largest : KeptRows → Rows → Ranges → ℕ → Float
-largest kept m g zero = plusZero
-largest kept m g (suc n) = withTerm (cl kept m n) (cu kept m n) (g .low n) (g .high n) (largest kept m g n)
+unfoldable pub largest : (ℕ → Float) → (ℕ → Float) → Ranges → ℕ → Float
+largest lower upper g zero = plusZero
+largest lower upper g (suc n) = withTerm (lower n) (upper n) (g .low n) (g .high n) (largest lower upper g n)
 
 -- ---- 5. "B adds hi, then lo, times right side of kept rows, rounded down": a row by its place in the set
 unfoldable pub withRightSide : Multiplier → Float → Float → Float
@@ -99,8 +100,8 @@ difference b m = cond (eq b (inf true) || eq m (inf false)) (inf true) (sumDown 
 -- ---- 1. "A kept y with a part not finite: −infinity", and the −infinities of 2 and 3
 unfoldable pub outwardGap : KeptRows → Rows → Ranges → Float
 outwardGap kept m g =
-    cond (allBelow (m .count) (λ r. finiteParts (kept r)) && allBelow (m .variables) (limitedAt kept m g))
-    (difference (rightSide kept m (m .count)) (largest kept m g (m .variables)))
+    cond (allBelow (m .count) (λ r. finiteParts (kept r)) && allBelow (m .variables) (limitedAt (cl kept m) (cu kept m) g))
+    (difference (rightSide kept m (m .count)) (largest (cl kept m) (cu kept m) g (m .variables)))
     (inf true)
 
 -- that of a sheet

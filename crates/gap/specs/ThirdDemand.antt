@@ -33,9 +33,13 @@ MissesAtLeast kept m g =
 abbrev pub NeverAbove : KeptRows → Rows → Ranges → Type 0
 NeverAbove kept m g = T (finite (outwardGap kept m g)) → (z : ℤ) × (exactGap kept m g ≡ some z) × (exactAt 2148 (outwardGap kept m g) ≼ z)
 
--- "an outward gap above 0 rules out every rational point": none lies in the ranges and meets every row exactly
+-- no point lies in the ranges and meets every row exactly
+abbrev pub NoPoint : Rows → Ranges → Type 0
+NoPoint m g = (p : Point) → Lies g (m .variables) p → ((r : ℕ) → r < m .count → Meets m p r) → ⊥
+
+-- "an outward gap above 0 rules out every rational point"
 abbrev pub RulesOut : KeptRows → Rows → Ranges → Type 0
-RulesOut kept m g = T (lt plusZero (outwardGap kept m g)) → (p : Point) → Lies g (m .variables) p → ((r : ℕ) → r < m .count → Meets m p r) → ⊥
+RulesOut kept m g = T (lt plusZero (outwardGap kept m g)) → NoPoint m g
 
 -- "narrower ranges never lower it", −infinity lowest: g are the narrower ones
 abbrev pub NotLowered : KeptRows → Rows → Ranges → KeptRows → Rows → Ranges → Type 0

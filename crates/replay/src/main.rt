@@ -1,21 +1,29 @@
-// Runs the sheets of standard input, which tests/differential writes with the answers of the Rust, and says for each
-// class of sheets how many were run and how many of them differ.
+// Runs the sheets of standard input, which tests/differential writes with the answers of the Rust and tests/outward with
+// gaps worked out in exact fractions, and says for each class of sheets how many were run and how many of them differ.
 //
-// A sheet is a line that makes it, lines that fill it, a line with its answer, and lines with what its outputs are to
-// be. A line is a letter and eight numbers of 16 digits, each after a space. Numbers that a letter does not have are 0.
+// A sheet is a line that makes it, lines that fill it, a line with its answer, one with its gaps, and lines with what its
+// outputs are to be. A line is a letter and eight numbers of 16 digits, each after a space. Numbers that a letter does not
+// have are 0.
 //
 //     S rows structurals entries widened extra class    a new sheet: each slice has the length that these need, each
 //                                                       output as many places as there are variables, and the extra
 //     D slice place n x x x x x    puts n values, 1 to 5, into a slice from a place on: numbers, flags, doubles' patterns
 //     G refusal holds gap allowance cut zero_within_error multipliers_zeroed rows    runs the sheet: the answer
+//     O refusal outward exact      reckons outward: the refusal, the outward gap, and the exact gap rounded down, which is
+//                                  NaN where there is none; both 0 where the sheet is refused
 //     L list place n x x x x x     n places of an output, 1 to 5: high, low, magnitudes, terms, errors, place after place
 //
 // A slice goes by its place among those that `proof_of` takes. After them comes one that is not handed over: the numbers
 // of the sheet. A new sheet has 0 everywhere, but for the sizes among its numbers; its outputs have FILL. A sheet
-// agrees if its answer does, and every place of every output. A line of any other form counts as a sheet that differs.
+// agrees if its answer does, its outward gap does and is not above the exact one, and every place of every output does. A
+// line of any other form counts as a sheet that differs.
 ghost use Prim.Native.Nat.{_+_, _≤_};
 use kept::Kept;
 use kept::proof_of;
+use outward::Outward;
+use outward::outward_of;
+use sheet::Outputs;
+use sheet::Sizes;
 use tables::Value;
 use tables::bits_of;
 use tables::count;
@@ -30,13 +38,13 @@ const BAD: u8 = b'?';
 
 // The counts have a place for each class and one for all sheets: first for those that were run, and from AGREE on for
 // those that agree. The last is for lines that differ.
-const CLASSES: usize = 11;
+const CLASSES: usize = 12;
 
-const ALL: usize = 11;
+const ALL: usize = 12;
 
-const AGREE: usize = 12;
+const AGREE: usize = 13;
 
-const LINES: usize = 24;
+const LINES: usize = 26;
 
 // How many lines that differ are printed.
 const SHOWN: u64 = 20;
@@ -115,6 +123,12 @@ const KEPT: usize = 5403;
 // After the last place of the last output.
 const DONE: usize = 2000;
 
+// Instead of a place, as long as the gaps are to be compared first.
+const GAPS: usize = 2001;
+
+// The pattern of −infinity.
+const UNLIMITED: usize = 0xFFF0_0000_0000_0000;
+
 type Words = [usize; 7403];
 
 type Flags = [u8; 1424];
@@ -131,7 +145,7 @@ type Line = [u8; 138];
 
 type Given = [usize; 8];
 
-type Counts = [u64; 25];
+type Counts = [u64; 27];
 
 // A part of an array.
 struct Part {
@@ -313,6 +327,56 @@ fn answer(
     )
 }
 
+/// How many rows, structural variables and entries a sheet says that it has.
+fn sizes_of(words: &Words) -> Sizes {
+    Sizes {
+        rows: words[4],
+        structurals: words[5],
+        entries: words[6],
+    }
+}
+
+/// Outputs of one length.
+fn outputs_alike(length: usize) -> Outputs {
+    Outputs {
+        high: length,
+        low: length,
+        magnitudes: length,
+        terms: length,
+        errors: length,
+    }
+}
+
+/// The outward gap of a sheet, whose outputs have the lengths that `run` lends.
+fn outward_answer(sizes: &Given, words: &Words, flags: &Flags, reals: &Reals) -> Outward {
+    outward_of(
+        sizes_of(words),
+        double_of(words[0] as u64),
+        byte(words[1]),
+        words[2],
+        byte(words[3]),
+        outputs_alike(outputs_of(sizes)),
+        words_of(words, sizes, STARTS),
+        words_of(words, sizes, COLUMNS),
+        reals_of(reals, sizes, ENTRIES),
+        reals_of(reals, sizes, RIGHT_SIDES),
+        reals_of(reals, sizes, SCALES),
+        flags_of(flags, sizes, INTEGER),
+        reals_of(reals, sizes, MINS),
+        reals_of(reals, sizes, MAXS),
+        reals_of(reals, sizes, LOW_TOLERANCES),
+        reals_of(reals, sizes, HIGH_TOLERANCES),
+        flags_of(flags, sizes, BASIC),
+        words_of(words, sizes, PLACES),
+        reals_of(reals, sizes, VALUES),
+        words_of(words, sizes, WIDENED_VARS),
+        flags_of(flags, sizes, WIDENED_UPS),
+        reals_of(reals, sizes, RHO_HI),
+        reals_of(reals, sizes, RHO_LO),
+        reals_of(reals, sizes, SECOND),
+    )
+}
+
 /// The pattern at a place of an output of doubles.
 fn pattern(output: &Output, place: usize) -> usize
     requires { ⌜ place ≤ 399 ⌝ }
@@ -387,6 +451,23 @@ fn agrees(k: Kept, a: &Given) -> bool {
         & (k.zero_within_error == a[5])
         & (k.multipliers_zeroed == a[6])
         & (k.rows == a[7])
+}
+
+/// Whether a gap is −infinity, or there is an exact one and it's not above that.
+fn is_within(gap: f64, exact: f64) -> bool {
+    is(gap, UNLIMITED) || gap <= exact
+}
+
+/// Whether an outward gap is the one on a line, and not above the exact one there.
+fn gap_agrees(o: Outward, a: &Given) -> bool {
+    (wide(o.refusal) == a[0])
+        & is(o.gap, a[1])
+        & is_within(o.gap, double_of(a[2] as u64))
+        & (a[3] == 0)
+        & (a[4] == 0)
+        & (a[5] == 0)
+        & (a[6] == 0)
+        & (a[7] == 0)
 }
 
 /// Puts a number at a place of a slice, and answers whether the slice has such a place.
@@ -553,7 +634,7 @@ fn refuse(line: &Line, counts: &mut Counts) {
 
 /// Counts a sheet for a place from `from` on.
 fn count_sheet(from: usize, sizes: &Given, counts: &mut Counts)
-    requires { ⌜ from ≤ 12 ⌝ }
+    requires { ⌜ from ≤ 13 ⌝ }
 {
     count(counts, from + least(sizes[CLASS], CLASSES));
     count(counts, from + ALL);
@@ -562,7 +643,7 @@ fn count_sheet(from: usize, sizes: &Given, counts: &mut Counts)
 /// Counts a sheet that is run.
 fn open(sizes: &mut Given, counts: &mut Counts) {
     count_sheet(0, sizes, counts);
-    sizes[NEXT] = if outputs_of(sizes) == 0 { DONE } else { 0 };
+    sizes[NEXT] = GAPS;
     sizes[SOUND] = 1;
 }
 
@@ -574,6 +655,25 @@ fn settle(ok: bool, line: &Line, sizes: &mut Given, counts: &mut Counts) {
     }
     if sizes[NEXT] == DONE && sizes[SOUND] == 1 {
         count_sheet(AGREE, sizes, counts);
+    }
+}
+
+/// Reckons outward a sheet whose gaps are on a line, if it was run just before.
+fn compare_gaps(
+    line: &Line,
+    a: &Given,
+    sizes: &mut Given,
+    words: &Words,
+    flags: &Flags,
+    reals: &Reals,
+    counts: &mut Counts,
+) {
+    if sizes[NEXT] == GAPS {
+        sizes[NEXT] = if outputs_of(sizes) == 0 { DONE } else { 0 };
+        let ok = gap_agrees(outward_answer(sizes, words, flags, reals), a);
+        settle(ok, line, sizes, counts);
+    } else {
+        refuse(line, counts);
     }
 }
 
@@ -656,6 +756,8 @@ fn run_line(
     let letter = letter_of(line, &mut a);
     if letter == b'G' {
         run_sheet(line, &a, sizes, words, flags, reals, counts);
+    } else if letter == b'O' {
+        compare_gaps(line, &a, sizes, words, flags, reals, counts);
     } else if letter == b'L' {
         compare(line, &a, sizes, words, counts);
     } else if !change(letter, &a, sizes, words, flags, reals) {
@@ -697,7 +799,7 @@ fn run_table(
 
 /// Writes how many sheets were run and how many differ. No more agree than were run.
 fn report(counts: &Counts, place: usize)
-    requires { ⌜ place ≤ 11 ⌝ }
+    requires { ⌜ place ≤ 12 ⌝ }
 {
     let run = counts[place];
     let agree = counts[AGREE + place];
@@ -709,7 +811,7 @@ fn report(counts: &Counts, place: usize)
 
 /// The same of a class.
 fn report_class(counts: &Counts, class: usize)
-    requires { ⌜ class ≤ 11 ⌝ }
+    requires { ⌜ class ≤ 12 ⌝ }
 {
     io::write_all(1, b"class ");
     io::print_decimal(1, class as u64);
@@ -725,7 +827,7 @@ fn report_classes(counts: &Counts) {
 }
 
 fn main() {
-    let mut counts = [0u64; 25];
+    let mut counts = [0u64; 27];
     let mut sizes = [0usize; 8];
     let mut words = [0usize; 7403];
     let mut flags = [0u8; 1424];

@@ -9,7 +9,7 @@ abbrev Inv-loop : tie.InvT-loop
 Inv-loop counts class₀ class = Unit {0}
 
 abbrev μ-loop : tie.MeasureT-loop
-μ-loop counts class₀ class = 11 - class
+μ-loop counts class₀ class = 12 - class
 
 loop-holds : tie.Need-loop-holds Inv-loop μ-loop
 loop-holds c = tt
