@@ -15,7 +15,7 @@ pub record Point : Type 0 where
   pub denominator : ℕ
   pub positive : 0 < denominator
 
--- a whole number in units of 2 ^ -1074 times those it is counted in
+-- z of some unit, in units 2 ^ 1074 times smaller: so a whole number compares with a double's exact value
 unfoldable pub inUnits : ℤ → ℤ
 inUnits z = z *ℤ pos (2 ^ 1074)
 
