@@ -14,7 +14,7 @@ use Rattle.doubles.specs.Directed.{sumUp, sumDown, productUp, productDown}
 use Rattle.cdouble.specs.declared.CDouble.{CDouble}
 use Rattle.multipliers.specs.declared.weighing.Multiplier.{Multiplier}
 use Rattle.multipliers.specs.declared.weighing.Multiplier.the-variants.{Zeroed, Dropped, Kept}
-use Rattle.gap.specs.Steps.{Operation, addScaled, afterEntries, withRow, withRightSide}
+use Rattle.gaps.specs.Steps.{Operation, addScaled, afterEntries, withRow, withRightSide}
 use Rattle.coefficients.specs.Ends.{added, Holds, Ends}
 use Rattle.coefficients.specs.Reads.{EntriesFit}
 use Rattle.exact.proofs.Turns.{UpTo, begin, advance}

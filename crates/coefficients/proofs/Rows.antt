@@ -10,8 +10,8 @@ use Rattle.cdouble.specs.Compensated.{plusZero}
 use Rattle.multipliers.specs.declared.weighing.Multiplier.{Multiplier}
 use Rattle.certificate.specs.System.{System, multiplierAt, rightSideAt, rowColumns, rowEntries}
 use Rattle.certificate.proofs.Lengths.{part-long}
-use Rattle.gap.specs.Rows.{Rows, KeptRows, rowsIn}
-use Rattle.gap.specs.Steps.{Operation, withRow, coefficientAfter, withRightSide, rightSide}
+use Rattle.gaps.specs.Rows.{Rows, KeptRows, rowsIn}
+use Rattle.gaps.specs.Steps.{Operation, withRow, coefficientAfter, withRightSide, rightSide}
 use Rattle.coefficients.specs.Ends.{Holds, Ends, RowAdded, Added, endsOver}
 use Rattle.coefficients.specs.Reads.{Long, EntriesFit, RowFits, RowsFit}
 use Rattle.exact.proofs.Turns.{UpTo, begin, advance}

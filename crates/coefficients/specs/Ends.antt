@@ -9,8 +9,8 @@ use Rattle.cdouble.specs.declared.CDouble.{CDouble}
 use Rattle.cdouble.specs.Compensated.{plusZero}
 use Rattle.certificate.specs.Certificate.{over}
 use Rattle.certificate.specs.System.{System, multiplierAt, rightSideAt, rowColumns, rowEntries}
-use Rattle.gap.specs.Rows.{Rows, KeptRows, rowsIn}
-use Rattle.gap.specs.Steps.{Operation, addScaled, withRow, coefficientAfter, withRightSide, rightSide}
+use Rattle.gaps.specs.Rows.{Rows, KeptRows, rowsIn}
+use Rattle.gaps.specs.Steps.{Operation, addScaled, withRow, coefficientAfter, withRightSide, rightSide}
 
 -- one entry more of a kept row, a of the variable v
 abbrev pub added : Operation → Operation → CDouble → ℕ → Float → List Float → List Float

@@ -13,9 +13,9 @@ use Rattle.doubles.specs.Directed.{sumUp, productUp}
 use Rattle.cdouble.specs.Compensated.{plusZero}
 use Rattle.cdouble.proofs.Contracts.{when-true, when-false}
 use Rattle.questions.proofs.All.{and-left, and-right, Passed, first as passed-none, next as passed-one, stop as not-passed, done as passed-all}
-use Rattle.gap.specs.Rows.{Ranges}
-use Rattle.gap.specs.Steps.{skipped, unlimited, limited, limitedAt, atEdge, term, withTerm, largest}
-use Rattle.gap.proofs.Agreement.{limits-same, largest-same}
+use Rattle.gaps.specs.Rows.{Ranges}
+use Rattle.gaps.specs.Steps.{skipped, unlimited, limited, limitedAt, atEdge, term, withTerm, largest}
+use Rattle.gaps.proofs.Agreement.{limits-same, largest-same}
 use Rattle.largest.specs.declared.Range.{Range}
 use Rattle.largest.specs.declared.Largest.{Largest}
 use Rattle.largest.specs.declared.Largest.the-variants.{Sum, Unlimited}

@@ -5,8 +5,8 @@ use Prim.Native.Nat.{ℕ}
 use lib.ListN.{getD}
 use lib.Ieee.{Float, nan, inf}
 use Rattle.questions.specs.Places.{allBelow}
-use Rattle.gap.specs.Rows.{Ranges}
-use Rattle.gap.specs.Steps.{limited, limitedAt, withTerm, largest}
+use Rattle.gaps.specs.Rows.{Ranges}
+use Rattle.gaps.specs.Steps.{limited, limitedAt, withTerm, largest}
 use Rattle.largest.specs.declared.Range.{Range}
 use Rattle.largest.specs.declared.Largest.{Largest}
 use Rattle.largest.specs.declared.Largest.the-variants.{Sum, Unlimited}

@@ -2,8 +2,8 @@
 ghost use mathlib.Core.Path.{_≡_};
 ghost use Rattle.edges.specs.Model.{model};
 ghost use Rattle.edges.specs.Reads.{Readable};
-ghost use Rattle.gap.specs.Rows.{rangesIn};
-ghost use Rattle.gap.specs.Steps.{atEdge, limited, skipped, term, unlimited, withTerm};
+ghost use Rattle.gaps.specs.Rows.{rangesIn};
+ghost use Rattle.gaps.specs.Steps.{atEdge, limited, skipped, term, unlimited, withTerm};
 ghost use Rattle.largest.specs.Walk.{at, largestOrInfinite, rangeAt, stepped};
 ghost use Rattle.largest.specs.Reads.{WalkFits};
 use doubles::is_finite;

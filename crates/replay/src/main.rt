@@ -20,8 +20,8 @@
 ghost use Prim.Native.Nat.{_+_, _≤_};
 use kept::Kept;
 use kept::proof_of;
-use outward::Outward;
-use outward::outward_of;
+use outward_sheet::Outward;
+use outward_sheet::outward_of;
 use sheet::Outputs;
 use sheet::Sizes;
 use tables::Value;

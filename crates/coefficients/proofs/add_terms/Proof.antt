@@ -2,7 +2,7 @@
 use borrow.Author.Needs.{needs}
 use Prim.Native.Nat.{_-_}
 use lib.ListN.{length}
-use Rattle.gap.specs.Steps.{afterEntries}
+use Rattle.gaps.specs.Steps.{afterEntries}
 use Rattle.coefficients.specs.Ends.{Ends}
 use Rattle.exact.proofs.Turns.{UpTo, finish}
 use Rattle.coefficients.proofs.Ends.{first-entry, entry-asks, next-entry}

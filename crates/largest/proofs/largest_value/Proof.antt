@@ -4,7 +4,7 @@ use borrow.Author.Needs.{needs}
 use Prim.Native.Nat.{_-_}
 use lib.Ieee.{ofBits, nanBits}
 use Rattle.edges.specs.Model.{model}
-use Rattle.gap.specs.Rows.{rangesIn}
+use Rattle.gaps.specs.Rows.{rangesIn}
 use Rattle.largest.specs.Walk.{at}
 use Rattle.largest.proofs.Walk.{Walking, first-variable, next-variable, walk-ends, all-walked}
 use Rattle.largest.proofs.largest_value.Statement.{statement}

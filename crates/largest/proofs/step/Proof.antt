@@ -1,6 +1,6 @@
 -- `step` meets its contract. Assumes nothing.
 use Rattle.edges.specs.Model.{Model, model}
-use Rattle.gap.specs.Rows.{rangesIn}
+use Rattle.gaps.specs.Rows.{rangesIn}
 use Rattle.largest.specs.declared.Range.{Range}
 use Rattle.largest.specs.Walk.{rangeAt}
 use Rattle.largest.proofs.Walk.{step-skips, step-ends, step-counts}
