@@ -29,7 +29,7 @@ MissesAtLeast kept m g =
     (z : ℤ) → exactGap kept m g ≡ some z → (p : Point) → Lies g (m .variables) p
     → z *ℤ pos (p .denominator) ≼ inUnits (Σ< (m .count) (λ r. multiplier (kept r) *ℤ missed m p r))
 
--- "A finite outward gap is never above the exact gap": there is one then
+-- "A finite outward gap is never above the exact gap", both in units of 2 ^ -3222: there is one then
 abbrev pub NeverAbove : KeptRows → Rows → Ranges → Type 0
 NeverAbove kept m g = T (finite (outwardGap kept m g)) → (z : ℤ) × (exactGap kept m g ≡ some z) × (exactAt 2148 (outwardGap kept m g) ≼ z)
 
