@@ -61,7 +61,7 @@ fn answered(p: Proof) -> Kept
 }
 
 /// The kept numbers of an accepted sheet, the certificate's lists written to what is lent for them.
-fn weighed(
+pub fn weighed(
     rows: usize,
     structurals: usize,
     entry_count: usize,

@@ -24,7 +24,7 @@ pub struct Outward {
 }
 
 /// The outward gap of an accepted sheet.
-fn gap_of(
+pub fn gap_of(
     sizes: Sizes,
     feasibility: f64,
     checked: u8,

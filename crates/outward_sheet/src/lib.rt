@@ -4,5 +4,6 @@ mod answer;
 mod reckoning;
 
 pub use answer::Outward;
+pub use answer::gap_of;
 pub use answer::outward_of;
 pub use reckoning::outward_gap;
