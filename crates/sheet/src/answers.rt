@@ -72,7 +72,7 @@ pub fn number_of(refusal: Refusal) -> u32
 }
 
 /// The second question.
-fn sizes_fine(sizes: Sizes) -> bool
+pub fn sizes_fine(sizes: Sizes) -> bool
     ensures { λ r. ⌜ r ≡ sizesFine (sizes .rows) (sizes .structurals) (sizes .entries) ⌝ }
 {
     (1 <= sizes.rows)

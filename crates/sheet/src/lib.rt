@@ -6,3 +6,4 @@ pub use answers::Refusal;
 pub use answers::Sizes;
 pub use answers::first_no;
 pub use answers::number_of;
+pub use answers::sizes_fine;

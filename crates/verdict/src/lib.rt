@@ -32,7 +32,7 @@ pub struct Verdict {
 }
 
 /// The answer to a sheet that a question refuses.
-fn refused(number: u32) -> Verdict
+pub fn refused(number: u32) -> Verdict
     ensures { λ r. ⌜ r ≡ refusedWith number ⌝ }
 {
     Verdict {

@@ -1,0 +1,5 @@
+pub mod Stores
+pub mod Runs
+pub mod Gathers
+pub mod Chains
+pub mod Fronts

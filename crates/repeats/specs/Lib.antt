@@ -1,0 +1,3 @@
+pub mod Counted
+pub mod Chained
+pub mod Filled

@@ -1,0 +1,5 @@
+pub mod Counts
+pub mod Gathered
+pub mod Lengths
+pub mod Slices
+pub mod Example

@@ -1,0 +1,3 @@
+pub mod Rows
+pub mod Widened
+pub mod Multipliers
