@@ -1,14 +1,14 @@
 -- A loop that reads things until there is none, n at most in all, and stores a value of each: what is left to do at its head, one turn, and its
 -- end. `first` things were read before the loop began, `count` before this turn. Assumes nothing.
 use mathlib.Core.Path.{_≡_, refl, sym, ap, _∙_}
-use mathlib.Core.List.{List, [], _∷_, map}
-use mathlib.Core.Bool.{Bool, true, false, cond}
+use mathlib.Core.List.{List, [], map}
+use mathlib.Core.Bool.{Bool, true, false}
 use mathlib.Core.Logic.{_⊎_, inl, inr}
 use Prim.Native.Nat.{ℕ, zero, suc, _+_, _-_, _<_, _≤_}
 use native.Mathlib.Numerals.{add-one}
 use native.Mathlib.Omega.{arith}
 use lib.ListN.{length, set}
-use lib.Seq.{sets, length-sets}
+use lib.Seq.{length-sets}
 use Rattle.repeats.specs.Chained.{chain, chainEnd}
 use Rattle.repeats.specs.Filled.{filledFrom}
 use Rattle.repeats.proofs.Stores.{step-left}

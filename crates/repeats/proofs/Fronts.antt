@@ -1,5 +1,5 @@
 -- The front of a slice that was filled from the front, for whoever cuts the slice there. Assumes nothing.
-use mathlib.Core.Path.{_≡_, refl, sym, ap, _∙_}
+use mathlib.Core.Path.{_≡_, refl, ap, _∙_}
 use mathlib.Core.List.{List, [], _∷_, map}
 use Prim.Native.Nat.{ℕ, zero, suc, _+_, _≤_}
 use native.Mathlib.Nat.{le-refl}
@@ -17,7 +17,7 @@ front-sets (suc k) [] vs h g = absurd (omega arith)
 front-sets (suc k) (x ∷ l) [] h g = absurd (omega arith)
 front-sets (suc k) (x ∷ l) (v ∷ vs) h g = rw (sets-behind v l 0 vs) (ap (λ (r : List _). v ∷ r) (front-sets k l vs (omega (arith, h)) (omega (arith, g))))
 
-take-map : {R A : Type 0} (f : R → A) (k : ℕ) (things : List R) → take k (map f things) ≡ map f (take k things)
+pub take-map : {R A : Type 0} (f : R → A) (k : ℕ) (things : List R) → take k (map f things) ≡ map f (take k things)
 take-map f zero things = refl
 take-map f (suc k) [] = refl
 take-map f (suc k) (x ∷ things) = ap (λ (r : List _). f x ∷ r) (take-map f k things)

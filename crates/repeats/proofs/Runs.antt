@@ -1,13 +1,13 @@
 -- A loop that reads n things and stores a value of each: what is left to do at its head, one turn, and its end. Assumes nothing.
 use mathlib.Core.Path.{_≡_, refl, sym, ap, _∙_}
 use mathlib.Core.Bool.{Bool, true, false, cond}
-use mathlib.Core.List.{List, [], _∷_, map}
+use mathlib.Core.List.{List, map}
 use Prim.Native.Nat.{ℕ, zero, suc, _+_, _-_, _<_, _≤_}
 use native.Mathlib.Numerals.{add-one}
 use native.Mathlib.Omega.{arith}
 use lib.Dec.{ltb}
 use lib.ListN.{length, set}
-use lib.Seq.{sets, length-sets}
+use lib.Seq.{length-sets}
 use borrow.Author.Tests.{ltb-true, ltb-false}
 use Rattle.repeats.specs.Counted.{run, after}
 use Rattle.repeats.specs.Filled.{filledFrom}

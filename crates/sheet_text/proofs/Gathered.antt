@@ -1,5 +1,5 @@
 -- The parts of a text as the code reads them, one after the other, are those of the definition. Assumes nothing.
-use mathlib.Core.Path.{_≡_, refl}
+use mathlib.Core.Path.{_≡_}
 use mathlib.Core.List.{List}
 use Prim.Native.Nat.{ℕ, _+_}
 use Rattle.text_items.specs.declared.Choice.{Choice}

@@ -1,12 +1,16 @@
 -- The slices that a text was read into, cut to the lengths of its lists, hold these lists: for whoever puts the questions to them. Assumes nothing.
 use mathlib.Core.Path.{_≡_, refl, sym, ap, _∙_, subst}
 use mathlib.Core.Bool.{true}
-use mathlib.Core.List.{List, [], _∷_, map}
+use mathlib.Core.List.{List, _∷_, map}
 use Prim.Native.Nat.{ℕ, _+_, _≤_, min}
 use native.Mathlib.Nat.{min-le-left, min-le-right}
+use borrow.Author.Tests.{leb-true, eqb-true}
+use lib.Dec.{leb, eqb}
 use lib.ListN.{length, getD, take}
+use Rattle.questions.proofs.All.{and-left, and-right}
 use Rattle.repeats.specs.Filled.{column, filledFrom}
 use Rattle.repeats.proofs.Fronts.{front-of, whole-front, behind-first}
+use Rattle.text_items.specs.Items.{mostBytes}
 use Rattle.text_lines.specs.declared.variable_lines.VariableLine.{VariableLine}
 use Rattle.text_lines.specs.declared.row_items.Pair.{Pair}
 use Rattle.text_lines.specs.declared.sided_lines.WidenedLine.{WidenedLine}
@@ -63,7 +67,21 @@ module _ (text : List ℕ) where
       front-of f (widenedLinesIn text) before (min (readIn text .widened) (length before)) (min-le-right _ _)
       (subst (λ (k : ℕ). min (readIn text .widened) (length before) ≤ k) (sym (widened-long text)) (min-le-left _ _))
 
+  -- all of them, where there is room for all
+  pub widened-whole : {A : Type 0} (f : WidenedLine → A) (before : List A) → readIn text .widened ≤ length before
+      → take (readIn text .widened) (column f (widenedLinesIn text) before) ≡ map f (widenedLinesIn text)
+  widened-whole f before h = cut f (widenedLinesIn text) before (readIn text .widened) (widened-long text) h
+
   -- what `follows_form` answers of the text's length and the position that was read is the first question's answer
   pub form-is : formMet (length text) (readIn text .next) ≡ followsForm text
   unfolding followsForm
   form-is = refl
+
+  -- a text that follows the form is short enough, and its last line ends where it does
+  pub form-short : followsForm text ≡ true → length text ≤ mostBytes
+  unfolding followsForm
+  form-short e = leb-true (length text) mostBytes (and-left (leb (length text) mostBytes) (eqb (readIn text .next) (length text)) e)
+
+  pub form-ends : followsForm text ≡ true → readIn text .next ≡ length text
+  unfolding followsForm
+  form-ends e = eqb-true (readIn text .next) (length text) (and-right (leb (length text) mostBytes) (eqb (readIn text .next) (length text)) e)

@@ -5,9 +5,12 @@ ghost use Rattle.io.specs.Counts.{Counts};
 use libc::STDERR_FILENO;
 use libc::STDIN_FILENO;
 use libc::STDOUT_FILENO;
+use text_items::MOST_BYTES;
+use weigh_text::MOST_ANSWER;
+use weigh_text::weigh_text;
 
 // One byte more than a sheet may have, so that a longer text is seen to be one.
-const ROOM: usize = 65537;
+const ROOM: usize = MOST_BYTES + 1;
 
 // How many bytes stand at the front of the text, and whether a read failed.
 struct Input {
@@ -62,13 +65,24 @@ fn read_on() {
     }
 }
 
+// Answers the text, and says on standard error where the answer cannot be written.
+fn answer(text: &[u8]) {
+    let mut out = [0u8; MOST_ANSWER];
+    let length = weigh_text(text, &mut out);
+    if !io::write_all(STDOUT_FILENO, &out[..length]) {
+        io::write_all(STDERR_FILENO, b"weigh: the answer cannot be written\n");
+    }
+}
+
 fn main() {
     let mut text = [0u8; ROOM];
     let input = read_text(&mut text);
-    read_on();
     if input.failed {
         io::write_all(STDERR_FILENO, b"weigh: standard input cannot be read\n");
         return;
     }
-    io::write_all(STDOUT_FILENO, &text[..input.length]);
+    if input.length == ROOM {
+        read_on();
+    }
+    answer(&text[..input.length]);
 }

@@ -1,2 +1,4 @@
 pub mod Cut
 pub mod FrontVerdict
+pub mod Reading
+pub mod Answering

@@ -7,7 +7,6 @@ use lib.Dec.{ltb}
 use lib.ListN.{length, take}
 use Rattle.questions.specs.Limits.{mostRows, mostStructurals, mostEntries}
 use Rattle.questions.specs.Questions.{sizesFine}
-use Rattle.sheet.specs.declared.answers.Outputs.{Outputs}
 use Rattle.sheet.specs.Sheet.{Sheet, sheet, sizesOf, variables}
 use Rattle.verdict.specs.declared.Verdict.{Verdict}
 use Rattle.verdict.specs.Verdict.{refusedWith, verdict}
@@ -23,10 +22,6 @@ mostWidened = 2 * mostVariables + 1
 -- how many widened items are looked at
 abbrev pub fewest : ℕ → ℕ
 fewest widened = cond (ltb widened mostWidened) widened mostWidened
-
--- how many places the certificate's lists have there
-abbrev pub ownOutputs : Outputs
-ownOutputs = record { high = mostVariables; low = mostVariables; magnitudes = mostVariables; terms = mostVariables; errors = mostVariables }
 
 -- lists with room for the largest sheet
 pub record HasRoom (long : Sheet) : Type 0 where

@@ -5,8 +5,6 @@ use lib.Seq.{set-out}
 use borrow.Author.Needs.{needs}
 use Rattle.repeats.proofs.put_count.Statement.{statement}
 use Rattle.repeats.proofs.put_count.Tie as tie
-use Rattle.repeats.proofs.put_count.Reads as reads
-use Rattle.repeats.proofs.put_count.Lts as lts
 
 mul-counts : tie.Need-mul-counts
 mul-counts c = search needs

@@ -5,8 +5,6 @@ use lib.Seq.{set-out}
 use borrow.Author.Needs.{needs}
 use Rattle.repeats.proofs.put_double.Statement.{statement}
 use Rattle.repeats.proofs.put_double.Tie as tie
-use Rattle.repeats.proofs.put_double.Reads as reads
-use Rattle.repeats.proofs.put_double.Lts as lts
 
 mul-doubles : tie.Need-mul-doubles
 mul-doubles c = search needs

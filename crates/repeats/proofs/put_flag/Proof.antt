@@ -5,8 +5,6 @@ use lib.Seq.{set-out}
 use borrow.Author.Needs.{needs}
 use Rattle.repeats.proofs.put_flag.Statement.{statement}
 use Rattle.repeats.proofs.put_flag.Tie as tie
-use Rattle.repeats.proofs.put_flag.Reads as reads
-use Rattle.repeats.proofs.put_flag.Lts as lts
 
 slice-write-flags : tie.Need-slice-write-flags
 slice-write-flags c = search needs

@@ -1,13 +1,10 @@
 -- `read_sheet` meets its contract. Assumes nothing.
-use mathlib.Core.Path.{_≡_}
 use native.Mathlib.Omega.{arith}
 use denote.Ref.{now}
 use Rattle.sheet_text.proofs.Counts.{heading-below}
 use Rattle.sheet_text.proofs.Gathered.{Gathered, read-is, structurals-are, variables-are, rows-are, pairs-are, widened-are, rhos-are}
 use Rattle.sheet_text.proofs.read_sheet.Statement.{statement}
 use Rattle.sheet_text.proofs.read_sheet.Tie as tie
-use Rattle.sheet_text.proofs.read_sheet.Reads as reads
-use Rattle.sheet_text.proofs.read_sheet.Lts as lts
 
 heading-lines-requires : tie.Need-heading-lines-requires
 heading-lines-requires c κs = tt

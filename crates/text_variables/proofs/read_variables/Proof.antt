@@ -1,5 +1,5 @@
 -- `read_variables` meets its contract. Assumes nothing.
-use Prim.Native.Nat.{ℕ, _-_}
+use Prim.Native.Nat.{_-_}
 use native.Mathlib.Nat.{le-trans}
 use native.Mathlib.Omega.{arith}
 use Rattle.repeats.proofs.Runs.{Leads, Fills, leads-start, leads-turn, leads-end, fills-start, fills-turn, fills-below, fills-end, fills-length}
@@ -8,8 +8,6 @@ use Rattle.text_lines.specs.Lines.{lineAt}
 use Rattle.text_variables.specs.Variables.{afterVariable}
 use Rattle.text_variables.proofs.read_variables.Statement.{statement}
 use Rattle.text_variables.proofs.read_variables.Tie as tie
-use Rattle.text_variables.proofs.read_variables.Reads as reads
-use Rattle.text_variables.proofs.read_variables.Lts as lts
 
 abbrev Inv-loop : tie.InvT-loop
 Inv-loop text position structurals count integer₀ mins₀ maxs₀ low₀ high₀ basic₀ places₀ values₀ next₀ i₀ integer mins maxs low high basic places values next i = Leads (lineAt text structurals) afterVariable count position i next × (Fills (lineAt text structurals) afterVariable (λ (line : VariableLine). line .integer) structurals position 0 integer₀ i next i integer × (Fills (lineAt text structurals) afterVariable (λ (line : VariableLine). line .min) count position 0 mins₀ i next i mins × (Fills (lineAt text structurals) afterVariable (λ (line : VariableLine). line .max) count position 0 maxs₀ i next i maxs × (Fills (lineAt text structurals) afterVariable (λ (line : VariableLine). line .low) count position 0 low₀ i next i low × (Fills (lineAt text structurals) afterVariable (λ (line : VariableLine). line .high) count position 0 high₀ i next i high × (Fills (lineAt text structurals) afterVariable (λ (line : VariableLine). line .basic) count position 0 basic₀ i next i basic × (Fills (lineAt text structurals) afterVariable (λ (line : VariableLine). line .place) count position 0 places₀ i next i places × (Fills (lineAt text structurals) afterVariable (λ (line : VariableLine). line .value) count position 0 values₀ i next i values))))))))

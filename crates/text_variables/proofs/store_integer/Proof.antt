@@ -5,8 +5,6 @@ use borrow.Author.Needs.{needs}
 use Rattle.text_variables.proofs.Flags.{stored, left-out}
 use Rattle.text_variables.proofs.store_integer.Statement.{statement}
 use Rattle.text_variables.proofs.store_integer.Tie as tie
-use Rattle.text_variables.proofs.store_integer.Reads as reads
-use Rattle.text_variables.proofs.store_integer.Lts as lts
 
 put-flag-requires : tie.Need-put-flag-requires
 put-flag-requires c κs = search needs

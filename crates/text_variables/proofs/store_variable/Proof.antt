@@ -2,8 +2,6 @@
 
 use Rattle.text_variables.proofs.store_variable.Statement.{statement}
 use Rattle.text_variables.proofs.store_variable.Tie as tie
-use Rattle.text_variables.proofs.store_variable.Reads as reads
-use Rattle.text_variables.proofs.store_variable.Lts as lts
 
 put-double-requires : tie.Need-put-double-requires
 put-double-requires c κs = tt

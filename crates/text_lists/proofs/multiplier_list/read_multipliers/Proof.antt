@@ -1,13 +1,11 @@
 -- `read_multipliers` meets its contract. Assumes nothing.
-use Prim.Native.Nat.{ℕ, _-_}
+use Prim.Native.Nat.{_-_}
 use native.Mathlib.Omega.{arith}
 use Rattle.repeats.proofs.Runs.{Leads, Fills, leads-start, leads-turn, leads-end, fills-start, fills-turn, fills-end, fills-length}
 use Rattle.text_lines.specs.declared.multiplier_lines.RhoLine.{RhoLine}
 use Rattle.text_lists.specs.Multipliers.{rhoAt, afterRho}
 use Rattle.text_lists.proofs.multiplier_list.read_multipliers.Statement.{statement}
 use Rattle.text_lists.proofs.multiplier_list.read_multipliers.Tie as tie
-use Rattle.text_lists.proofs.multiplier_list.read_multipliers.Reads as reads
-use Rattle.text_lists.proofs.multiplier_list.read_multipliers.Lts as lts
 
 abbrev Inv-loop : tie.InvT-loop
 Inv-loop text checked position rows hi₀ lo₀ second₀ next₀ i₀ hi lo second next i = Leads (rhoAt text checked) afterRho rows position i next × (Fills (rhoAt text checked) afterRho (λ (line : RhoLine). line .hi) rows position 0 hi₀ i next i hi × (Fills (rhoAt text checked) afterRho (λ (line : RhoLine). line .lo) rows position 0 lo₀ i next i lo × (Fills (rhoAt text checked) afterRho (λ (line : RhoLine). line .second) rows position 0 second₀ i next i second)))

@@ -1,7 +1,7 @@
 -- `read_pairs` meets its contract. Assumes nothing.
-use mathlib.Core.Path.{_≡_, refl, sym, ap, _∙_}
+use mathlib.Core.Path.{refl, sym, _∙_}
 use mathlib.Core.Logic.{inl, inr}
-use Prim.Native.Nat.{ℕ, _-_}
+use Prim.Native.Nat.{_-_}
 use native.Mathlib.Omega.{arith}
 use denote.Ref.{now}
 use Rattle.repeats.proofs.Chains.{ChainLeads, ChainCounts, ChainFills, Over, chain-leads-turn, chain-leads-end, chain-counts-turn, chain-counts-end, chain-fills-turn, chain-fills-end, chain-fills-length}
@@ -12,8 +12,6 @@ use Rattle.text_lists.specs.Rows.{afterPair}
 use Rattle.text_lists.proofs.Reaching.{pairs-reached}
 use Rattle.text_lists.proofs.row_lists.read_pairs.Statement.{statement}
 use Rattle.text_lists.proofs.row_lists.read_pairs.Tie as tie
-use Rattle.text_lists.proofs.row_lists.read_pairs.Reads as reads
-use Rattle.text_lists.proofs.row_lists.read_pairs.Lts as lts
 
 abbrev Inv-loop : tie.InvT-loop
 Inv-loop text position first columns₀ entries₀ next₀ count₀ columns entries next count = ChainLeads (noPair text) (pair text) afterPair mostBytes first position count next × (ChainCounts (noPair text) (pair text) afterPair mostBytes first position count next × (ChainFills (noPair text) (pair text) afterPair (λ (item : Pair). item .column) mostBytes first position columns₀ count next columns × (ChainFills (noPair text) (pair text) afterPair (λ (item : Pair). item .entry) mostBytes first position entries₀ count next entries)))

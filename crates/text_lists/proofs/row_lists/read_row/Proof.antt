@@ -3,8 +3,6 @@ use denote.Ref.{now}
 use Rattle.text_lists.proofs.Reaching.{row-line-is, row-pairs-is}
 use Rattle.text_lists.proofs.row_lists.read_row.Statement.{statement}
 use Rattle.text_lists.proofs.row_lists.read_row.Tie as tie
-use Rattle.text_lists.proofs.row_lists.read_row.Reads as reads
-use Rattle.text_lists.proofs.row_lists.read_row.Lts as lts
 
 row-head-requires : tie.Need-row-head-requires
 row-head-requires c κs = tt

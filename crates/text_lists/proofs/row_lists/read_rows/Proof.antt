@@ -1,6 +1,6 @@
 -- `read_rows` meets its contract. Assumes nothing.
-use mathlib.Core.Path.{refl, ap, _∙_}
-use Prim.Native.Nat.{ℕ, _-_, _+_}
+use mathlib.Core.Path.{refl}
+use Prim.Native.Nat.{_-_, _+_}
 use native.Mathlib.Omega.{arith}
 use Rattle.repeats.proofs.Runs.{Leads, Fills, leads-start, leads-turn, leads-end, fills-start, fills-turn, fills-end, fills-length}
 use Rattle.repeats.proofs.Gathers.{Gathers, gathers-start, gathers-turn, gathers-end, gathers-length}
@@ -11,8 +11,6 @@ use Rattle.text_lists.specs.Rows.{rowAt, afterRow, noPairYet, pairsAt}
 use Rattle.text_lists.proofs.Reaching.{row-moves}
 use Rattle.text_lists.proofs.row_lists.read_rows.Statement.{statement}
 use Rattle.text_lists.proofs.row_lists.read_rows.Tie as tie
-use Rattle.text_lists.proofs.row_lists.read_rows.Reads as reads
-use Rattle.text_lists.proofs.row_lists.read_rows.Lts as lts
 
 abbrev Inv-loop : tie.InvT-loop
 Inv-loop text position rows right₀ scales₀ starts₀ columns₀ entries₀ next₀ count₀ i₀ right scales starts columns entries next count i = Leads (rowAt text) afterRow rows (noPairYet position) i (record { count = count; next = next }) × (Fills (rowAt text) afterRow (λ (row : RowLine). row .right) rows (noPairYet position) 0 right₀ i (record { count = count; next = next }) i right × (Fills (rowAt text) afterRow (λ (row : RowLine). row .scale) rows (noPairYet position) 0 scales₀ i (record { count = count; next = next }) i scales × (Fills (rowAt text) afterRow (λ (row : RowLine). row .end) rows (noPairYet position) 1 starts₀ i (record { count = count; next = next }) (i + 1) starts × (Gathers (rowAt text) afterRow (pairsAt text) (λ (item : Pair). item .column) (λ (reached : Reached). reached .count) rows (noPairYet position) columns₀ i (record { count = count; next = next }) columns × (Gathers (rowAt text) afterRow (pairsAt text) (λ (item : Pair). item .entry) (λ (reached : Reached). reached .count) rows (noPairYet position) entries₀ i (record { count = count; next = next }) entries)))))

@@ -1,7 +1,7 @@
 -- `read_widened` meets its contract. Assumes nothing.
-use mathlib.Core.Path.{_≡_, refl, sym, ap, _∙_}
+use mathlib.Core.Path.{refl, sym, _∙_}
 use mathlib.Core.Logic.{inl, inr}
-use Prim.Native.Nat.{ℕ, _-_}
+use Prim.Native.Nat.{_-_}
 use native.Mathlib.Omega.{arith}
 use denote.Ref.{now}
 use Rattle.repeats.proofs.Chains.{ChainLeads, ChainCounts, ChainFills, Over, chain-leads-turn, chain-leads-end, chain-counts-turn, chain-counts-end, chain-fills-turn, chain-fills-end, chain-fills-length}
@@ -12,8 +12,6 @@ use Rattle.text_lists.specs.Widened.{afterWidened}
 use Rattle.text_lists.proofs.Reaching.{widened-reached}
 use Rattle.text_lists.proofs.widened_list.read_widened.Statement.{statement}
 use Rattle.text_lists.proofs.widened_list.read_widened.Tie as tie
-use Rattle.text_lists.proofs.widened_list.read_widened.Reads as reads
-use Rattle.text_lists.proofs.widened_list.read_widened.Lts as lts
 
 abbrev Inv-loop : tie.InvT-loop
 Inv-loop text position variables₀ ups₀ next₀ count₀ variables ups next count = ChainLeads (noWidened text) (widenedLine text) afterWidened mostBytes 0 position count next × (ChainCounts (noWidened text) (widenedLine text) afterWidened mostBytes 0 position count next × (ChainFills (noWidened text) (widenedLine text) afterWidened (λ (item : WidenedLine). item .variable) mostBytes 0 position variables₀ count next variables × (ChainFills (noWidened text) (widenedLine text) afterWidened (λ (item : WidenedLine). item .up) mostBytes 0 position ups₀ count next ups)))

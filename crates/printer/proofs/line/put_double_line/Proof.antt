@@ -1,0 +1,36 @@
+-- `put_double_line` meets its contract. Assumes nothing.
+use native.Mathlib.Omega.{arith}
+use Rattle.stored_text.proofs.Lengths.{length-hexadecimal}
+use Rattle.printer.proofs.Parts.{line-stored}
+use borrow.Author.Needs.{needs}
+use Rattle.printer.proofs.line.put_double_line.Statement.{statement}
+use Rattle.printer.proofs.line.put_double_line.Tie as tie
+
+put-text-requires : tie.Need-put-text-requires
+put-text-requires c κs = search needs
+
+put-double-requires : tie.Need-put-double-requires
+put-double-requires c κs = search needs
+
+slice-aggregate-put-text : tie.Need-slice-aggregate-put-text
+slice-aggregate-put-text c = search needs
+
+put-text-requires-2 : tie.Need-put-text-requires-2
+put-text-requires-2 c κs = omega (arith, c .before .before .before .before .before .before .before .before .put-text .ensures .place, c .before .before .before .before .put-double .ensures .place, length-hexadecimal (c .before .before .before .before .before .before .before .before .before .before .before .before .args .v))
+
+same-length : tie.Need-same-length
+same-length c = search needs
+
+returns : tie.Need-returns
+returns c = line-stored (c .before .before .before .before .before .before .before .before .before .before .before .put-text .ensures) (c .before .before .before .before .before .before .before .put-double .ensures) (c .before .before .put-text2 .ensures) (omega (arith, length-hexadecimal (c .before .before .before .before .before .before .before .before .before .before .before .before .before .before .before .args .v)))
+
+pub put-double-line-spec : {M : Type 1} → statement M
+put-double-line-spec =
+    tie.close
+    (tie.spec
+    put-text-requires
+    put-double-requires
+    slice-aggregate-put-text
+    put-text-requires-2
+    same-length
+    returns)
