@@ -1,3 +1,4 @@
+-- `read_text` meets its contract. Assumes nothing.
 use Rattle.io.proofs.Counting.{counts}
 use native.Mathlib.Omega.{arith}
 use mathlib.Core.Path.{_≡_, refl, _∙_}
@@ -5,9 +6,6 @@ use Prim.Native.Nat.{_-_, _≤_}
 use lib.ListN.{length}
 use Rattle.weigh.proofs.read_text.Statement.{statement}
 use Rattle.weigh.proofs.read_text.Tie as tie
-use Rattle.weigh.proofs.read_text.Reads as reads
-use Rattle.weigh.proofs.read_text.Lts as lts
-use Rattle.weigh.proofs.read_behind.Reads as read-behind-reads
 
 abbrev Inv-loop : tie.InvT-loop
 Inv-loop text₀ used₀ failed₀ text used failed = (used ≤ length text) × (length text ≡ length text₀)
@@ -15,39 +13,30 @@ Inv-loop text₀ used₀ failed₀ text used failed = (used ≤ length text) × 
 abbrev μ-loop : tie.MeasureT-loop
 μ-loop text₀ used₀ failed₀ text used failed = length text - used
 
--- src/main.rt:36:5
 loop-holds : tie.Need-loop-holds Inv-loop μ-loop
 loop-holds c = (omega arith, refl)
 
--- src/main.rt:37:13
 read-behind-requires : tie.Need-read-behind-requires Inv-loop μ-loop
 read-behind-requires c κs = c .before .before .loop .inv .0
 
--- src/main.rt:42:9
 add-used : tie.Need-add-used Inv-loop μ-loop
 add-used c = omega (arith, c .before .before .before .before .before .read-behind .ensures, c .before .before .before .before .before .before .before .before .loop .inv .0)
 
--- src/main.rt:36:5
 loop-less : tie.Need-loop-less Inv-loop μ-loop
 loop-less c = omega (arith, c .before .before .before .before .before .read-behind .ensures, c .before .before .before .before .before .before .before .before .loop .inv .0, c .before .if1 .left, c .before .before .before .before .text .given)
 
--- src/main.rt:36:5
 loop-again : tie.Need-loop-again Inv-loop μ-loop
 loop-again c = (omega (arith, c .before .before .before .before .before .read-behind .ensures, c .before .before .before .before .text .given), c .before .before .before .before .text .given ∙ c .before .before .before .before .before .before .before .before .loop .inv .1)
 
--- src/main.rt:31:1
 same-length : tie.Need-same-length Inv-loop μ-loop
 same-length c = c .before .loop .inv .1
 
--- src/main.rt:31:1
 returns : tie.Need-returns Inv-loop μ-loop
 returns c = counts _ _ (c .before .loop .inv .0)
 
--- src/main.rt:31:1
 same-length-2 : tie.Need-same-length-2 Inv-loop μ-loop
 same-length-2 c = c .before .before .before .text .given ∙ c .before .before .before .before .before .before .before .loop .inv .1
 
--- src/main.rt:31:1
 returns-2 : tie.Need-returns-2 Inv-loop μ-loop
 returns-2 c = counts _ _ (omega (arith, c .before .before .before .before .before .before .before .loop .inv .0, c .before .before .before .text .given))
 
