@@ -1,7 +1,10 @@
-//! Times the kept reckoning here and in the Rust on the same sheets. A call here asks the questions first, which the Rust does
-//! not. What they take is told by the same sheets with a leaving row that the last question refuses; the rest is the reckoning.
+//! Times a call here, and the kept reckoning in the Rust, on the same sheets. A call here asks the questions first, which
+//! the Rust does not. What they take is told by the same sheets with a leaving row that the last question refuses; the
+//! rest is the reckoning: of the kept numbers alone where the archive has `proof_of`, and with `verdict_of` of the outward
+//! gap too.
 use crate::call::Call;
 use crate::generate::{timed, Rng};
+use crate::lent::Lending;
 use crate::rust::{reckon, Multipliers, Solver};
 use std::hint::black_box;
 use std::time::Instant;
@@ -33,7 +36,7 @@ pub fn run(seed: u64) {
             let mut rng = Rng::of(seed, entries as u64);
             let sheets: Vec<_> = (0..SHEETS).map(|_| timed(&mut rng, entries, checked)).collect();
             let calls = (400_000 / entries / SHEETS).max(4);
-            let mut lent: Vec<Call> = sheets.iter().map(Call::of).collect();
+            let mut lent: Vec<Call> = sheets.iter().map(|sheet| Call::of(sheet, Lending::Guarded)).collect();
             let here = best(calls, || {
                 for (sheet, call) in sheets.iter().zip(&mut lent) {
                     black_box(call.run(black_box(sheet)));

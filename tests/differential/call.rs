@@ -1,10 +1,12 @@
-//! The function under test, and its outputs.
-use crate::sheet::{Sheet, FILL, FILL_TERMS};
+//! The function under test, and what is lent to it.
+use crate::lent::{Lending, Lent};
+use crate::sheet::{FILL, FILL_TERMS, Sheet};
 
-/// As the crate `kept` has it, but that a flag is a byte here, so that any byte can be looked at.
+/// As the crate has it, but that a flag is a byte here, so that any byte can be looked at. Only `verdict_of` has the last
+/// two.
 #[repr(C)]
 #[derive(Clone, Copy)]
-pub struct Kept {
+pub struct Verdict {
     pub refusal: u32,
     pub holds: u8,
     pub gap: f64,
@@ -13,12 +15,18 @@ pub struct Kept {
     pub zero_within_error: usize,
     pub multipliers_zeroed: usize,
     pub rows: usize,
+    #[cfg(verdict)]
+    pub outward: f64,
+    #[cfg(verdict)]
+    pub declined: u8,
 }
 
 // each slice is two arguments, where it begins and its length
 #[rustfmt::skip]
 unsafe extern "C" {
-    fn proof_of(
+    #[cfg_attr(verdict, link_name = "verdict_of")]
+    #[cfg_attr(not(verdict), link_name = "proof_of")]
+    fn verdict_of(
         rows: usize, structurals: usize, entry_count: usize,
         feasibility: f64,
         checked: u8,
@@ -47,63 +55,79 @@ unsafe extern "C" {
         rho_hi: *const f64, rho_hi_length: usize,
         rho_lo: *const f64, rho_lo_length: usize,
         second: *const f64, second_length: usize,
-    ) -> Kept;
+    ) -> Verdict;
 }
 
-/// The outputs of a call. Behind each are places that are not lent.
+/// What is lent for a sheet: copies of its slices, and outputs.
 pub struct Call {
-    pub doubles: [Vec<f64>; 4],
-    pub terms: Vec<u32>,
-    lengths: [usize; 5],
+    /// High and low parts, magnitudes, errors.
+    pub outputs: [Lent<f64>; 4],
+    pub terms: Lent<u32>,
+    doubles: [Lent<f64>; 11],
+    counts: [Lent<usize>; 4],
+    flags: [Lent<u8>; 3],
 }
-
-const BEHIND: usize = 2;
 
 impl Call {
-    pub fn of(sheet: &Sheet) -> Self {
+    pub fn of(sheet: &Sheet, how: Lending) -> Self {
         let [high, low, magnitudes, terms, errors] = sheet.outputs;
+        let filled = |length| Lent::of(&vec![f64::from_bits(FILL); length], how);
         Call {
-            doubles: [high, low, magnitudes, errors].map(|length| vec![f64::from_bits(FILL); length + BEHIND]),
-            terms: vec![FILL_TERMS; terms + BEHIND],
-            lengths: sheet.outputs,
+            outputs: [high, low, magnitudes, errors].map(filled),
+            terms: Lent::of(&vec![FILL_TERMS; terms], how),
+            doubles: sheet.doubles().map(|list| Lent::of(list, how)),
+            counts: sheet.counts().map(|list| Lent::of(list, how)),
+            flags: sheet.flags().map(|list| Lent::of(list, how)),
         }
     }
 
+    /// Whether everything lent to be read is as it was, and nothing was written round the outputs.
+    pub fn is_clean(&self, sheet: &Sheet) -> bool {
+        self.outputs.iter().all(Lent::guards_stand)
+            && self.terms.guards_stand()
+            && self.doubles.iter().zip(sheet.doubles()).all(|(lent, list)| lent.is_still(list))
+            && self.counts.iter().zip(sheet.counts()).all(|(lent, list)| lent.is_still(list))
+            && self.flags.iter().zip(sheet.flags()).all(|(lent, list)| lent.is_still(list))
+    }
+
     #[rustfmt::skip]
-    pub fn run(&mut self, sheet: &Sheet) -> Kept {
-        let [high, low, magnitudes, errors] = &mut self.doubles;
-        let lengths = self.lengths;
+    pub fn run(&mut self, sheet: &Sheet) -> Verdict {
+        let [high, low, magnitudes, errors] = &mut self.outputs;
+        let [entries, right_sides, scales, mins, maxs, low_tolerances, high_tolerances, values, rho_hi, rho_lo, second]
+            = &self.doubles;
+        let [starts, columns, places, widened_vars] = &self.counts;
+        let [integer, basic, widened_ups] = &self.flags;
         // SAFETY: every pair is a slice that lives through the call, those written to are not shared
         unsafe {
-            proof_of(
+            verdict_of(
                 sheet.rows, sheet.structurals, sheet.entry_count,
                 sheet.feasibility,
                 sheet.checked,
                 sheet.leaving_row,
                 sheet.leaving_up,
-                high.as_mut_ptr(), lengths[0],
-                low.as_mut_ptr(), lengths[1],
-                magnitudes.as_mut_ptr(), lengths[2],
-                self.terms.as_mut_ptr(), lengths[3],
-                errors.as_mut_ptr(), lengths[4],
-                sheet.starts.as_ptr(), sheet.starts.len(),
-                sheet.columns.as_ptr(), sheet.columns.len(),
-                sheet.entries.as_ptr(), sheet.entries.len(),
-                sheet.right_sides.as_ptr(), sheet.right_sides.len(),
-                sheet.scales.as_ptr(), sheet.scales.len(),
-                sheet.integer.as_ptr(), sheet.integer.len(),
-                sheet.mins.as_ptr(), sheet.mins.len(),
-                sheet.maxs.as_ptr(), sheet.maxs.len(),
-                sheet.low_tolerances.as_ptr(), sheet.low_tolerances.len(),
-                sheet.high_tolerances.as_ptr(), sheet.high_tolerances.len(),
-                sheet.basic.as_ptr(), sheet.basic.len(),
-                sheet.places.as_ptr(), sheet.places.len(),
-                sheet.values.as_ptr(), sheet.values.len(),
-                sheet.widened_vars.as_ptr(), sheet.widened_vars.len(),
-                sheet.widened_ups.as_ptr(), sheet.widened_ups.len(),
-                sheet.rho_hi.as_ptr(), sheet.rho_hi.len(),
-                sheet.rho_lo.as_ptr(), sheet.rho_lo.len(),
-                sheet.second.as_ptr(), sheet.second.len(),
+                high.pointer_to_write(), high.len(),
+                low.pointer_to_write(), low.len(),
+                magnitudes.pointer_to_write(), magnitudes.len(),
+                self.terms.pointer_to_write(), self.terms.len(),
+                errors.pointer_to_write(), errors.len(),
+                starts.pointer(), starts.len(),
+                columns.pointer(), columns.len(),
+                entries.pointer(), entries.len(),
+                right_sides.pointer(), right_sides.len(),
+                scales.pointer(), scales.len(),
+                integer.pointer(), integer.len(),
+                mins.pointer(), mins.len(),
+                maxs.pointer(), maxs.len(),
+                low_tolerances.pointer(), low_tolerances.len(),
+                high_tolerances.pointer(), high_tolerances.len(),
+                basic.pointer(), basic.len(),
+                places.pointer(), places.len(),
+                values.pointer(), values.len(),
+                widened_vars.pointer(), widened_vars.len(),
+                widened_ups.pointer(), widened_ups.len(),
+                rho_hi.pointer(), rho_hi.len(),
+                rho_lo.pointer(), rho_lo.len(),
+                second.pointer(), second.len(),
             )
         }
     }

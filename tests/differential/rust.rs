@@ -170,6 +170,45 @@ pub fn reckon(solver: &Solver, multipliers: &mut Multipliers, row: usize, leavin
     proof.gap + proof.allowance
 }
 
+/// A row that the certificate keeps, with its multiplier y.
+pub struct Kept {
+    pub row: usize,
+    pub high: f64,
+    pub low: f64,
+}
+
+/// What the outward gap is reckoned from: the kept rows, ascending, and each variable's low and high edge, as document 01
+/// says them in words over the functions above. The Rust has neither in one place.
+pub fn combined(sheet: &Sheet) -> (Vec<Kept>, Vec<(f64, f64)>) {
+    let solver = Solver::of(sheet);
+    let mut multipliers = Multipliers::of(sheet);
+    multipliers.estimate();
+    let mut kept = Vec::new();
+    for (row, rho) in multipliers.refined.rho.iter().enumerate() {
+        let y = if sheet.leaving_up != 0 { rho.neg() } else { *rho }.normalized();
+        let slack = sheet.structurals + row;
+        let within_error = multipliers.refined.error.as_ref().is_some_and(|error| y.value().abs() <= error[row]);
+        let side = if y.value() > 0.0 { sheet.maxs[slack] } else { sheet.mins[slack] };
+        if !within_error && y.value() != 0.0 && !side.is_infinite() {
+            kept.push(Kept { row, high: y.hi, low: y.lo });
+        }
+    }
+    let leaving = solver.basic_vars[sheet.leaving_row];
+    let edge = |var: usize, bound: f64, up: bool| {
+        if bound.is_infinite() {
+            bound
+        } else if var == leaving {
+            band_edge(bound, solver.var_tols[var].toward(up), up)
+        } else if solver.holds_on_bounds(var) {
+            bound
+        } else {
+            band_edge(bound, solver.widening_room(var, up), up)
+        }
+    };
+    let variables = 0..solver.num_total_vars();
+    (kept, variables.map(|var| (edge(var, sheet.mins[var], false), edge(var, sheet.maxs[var], true))).collect())
+}
+
 /// How the walk over the variables ended, for the counts of outcomes.
 #[derive(Clone, Copy, PartialEq, Debug)]
 pub enum Walk {

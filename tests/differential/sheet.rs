@@ -49,6 +49,55 @@ impl Sheet {
         self.starts[r]..self.starts[r + 1]
     }
 
+    /// The lent slices of doubles, of counts and of flags, in the order in which a call lends them.
+    pub fn doubles(&self) -> [&Vec<f64>; 11] {
+        [
+            &self.entries,
+            &self.right_sides,
+            &self.scales,
+            &self.mins,
+            &self.maxs,
+            &self.low_tolerances,
+            &self.high_tolerances,
+            &self.values,
+            &self.rho_hi,
+            &self.rho_lo,
+            &self.second,
+        ]
+    }
+
+    pub fn counts(&self) -> [&Vec<usize>; 4] {
+        [&self.starts, &self.columns, &self.places, &self.widened_vars]
+    }
+
+    pub fn flags(&self) -> [&Vec<u8>; 3] {
+        [&self.integer, &self.basic, &self.widened_ups]
+    }
+
+    pub fn doubles_to_change(&mut self) -> [&mut Vec<f64>; 11] {
+        [
+            &mut self.entries,
+            &mut self.right_sides,
+            &mut self.scales,
+            &mut self.mins,
+            &mut self.maxs,
+            &mut self.low_tolerances,
+            &mut self.high_tolerances,
+            &mut self.values,
+            &mut self.rho_hi,
+            &mut self.rho_lo,
+            &mut self.second,
+        ]
+    }
+
+    pub fn counts_to_change(&mut self) -> [&mut Vec<usize>; 4] {
+        [&mut self.starts, &mut self.columns, &mut self.places, &mut self.widened_vars]
+    }
+
+    pub fn flags_to_change(&mut self) -> [&mut Vec<u8>; 3] {
+        [&mut self.integer, &mut self.basic, &mut self.widened_ups]
+    }
+
     /// The number of the first question that refuses the sheet, 0 if none does.
     pub fn first_no(&self) -> u32 {
         let questions: [fn(&Sheet) -> bool; 11] = [

@@ -7,12 +7,8 @@
 //!     L list place n x x x x x
 use crate::generate::{sheet, Rng, CLASSES};
 use crate::rust::Walk;
-use crate::sheet::{Sheet, FILL, FILL_TERMS};
-use crate::{expected, Expected};
-
-pub fn pattern(x: f64) -> u64 {
-    if x.is_nan() { 0x7FF8_0000_0000_0000 } else { x.to_bits() }
-}
+use crate::sheet::Sheet;
+use crate::expected::{expected, pattern, Expected};
 
 fn line(out: &mut String, letter: char, numbers: &[u64]) {
     out.push(letter);
@@ -91,11 +87,6 @@ pub fn lines(sheet: &Sheet, expected: &Expected) -> String {
         list(&mut out, 'L', which as u64, numbers, None);
     }
     out
-}
-
-/// What an output holds before the call.
-pub fn fill(list: usize) -> u64 {
-    if list == 3 { FILL_TERMS as u64 } else { FILL }
 }
 
 /// What a sheet comes to, in short.

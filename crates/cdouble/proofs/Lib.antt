@@ -1,10 +1,3 @@
-pub mod Sterbenz
-pub mod SignedRounding
-pub mod Knuth
-pub mod Veltkamp
-pub mod Dekker
-pub mod Product
-pub mod Steps
 pub mod RoundedUp
 pub mod Ranges
 pub mod TwoSum

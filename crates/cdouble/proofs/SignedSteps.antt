@@ -12,7 +12,7 @@ use Rattle.exact.proofs.Naturals.{distance}
 use Rattle.exact.proofs.Difference.{dif, differences}
 use Rattle.exact.proofs.Signed.{natAbs-dif}
 use Rattle.cdouble.specs.Compensated.{_⊖_, _⊗_}
-use Rattle.cdouble.proofs.Steps.{top, HasExact, as-value, IsDouble, is-double, double-as, sub-kept, mul-kept}
+use Rattle.error_free.proofs.Steps.{top, HasExact, as-value, IsDouble, is-double, double-as, sub-kept, mul-kept}
 
 -- a - b, or its negative
 abbrev pub offset : Bool → ℕ → ℕ → ℤ

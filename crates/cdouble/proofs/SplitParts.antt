@@ -18,9 +18,9 @@ use Rattle.exact.proofs.Values.{whole, exact-is, exact-abs}
 use Rattle.exact.proofs.Nearest.{toNearest-signed}
 use Rattle.cdouble.specs.Compensated.{_⊖_, _⊗_, factor, split}
 use Rattle.cdouble.specs.Exactness.{AtMost, IsSplit}
-use Rattle.cdouble.proofs.Veltkamp.{scaled, excess, product-cap, scaled-cap}
-use Rattle.cdouble.proofs.Product.{high64, halves64}
-use Rattle.cdouble.proofs.Steps.{top, HasExact, known, as-value, in-range, sub-rounded, mul-rounded}
+use Rattle.error_free.proofs.Veltkamp.{scaled, excess, product-cap, scaled-cap}
+use Rattle.error_free.proofs.Product.{high64, halves64}
+use Rattle.error_free.proofs.Steps.{top, HasExact, known, as-value, in-range, sub-rounded, mul-rounded}
 use Rattle.cdouble.proofs.SignedSteps.{offset, offset-signed, offset-same, offset-abs, offset-sub, sub-offset}
 
 pub toNearest-offset : (s : Bool) (n : ℕ) → toNearest 0 (offset s n 0) ≡ offset s (nearestUnits 53 0 n) 0

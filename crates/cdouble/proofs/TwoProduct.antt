@@ -23,8 +23,8 @@ use Rattle.exact.proofs.Operations.{mul-nearest}
 use Rattle.cdouble.specs.declared.CDouble.{CDouble}
 use Rattle.cdouble.specs.Compensated.{_⊖_, _⊗_, split, productError, twoProduct}
 use Rattle.cdouble.specs.Exactness.{AtMost, IsZero, ProductRange, IsExact}
-use Rattle.cdouble.proofs.Product.{high64, Terms, terms, rounded-zero, terms-zero-l, terms-zero-r}
-use Rattle.cdouble.proofs.Steps.{top, HasExact}
+use Rattle.error_free.proofs.Product.{high64, Terms, terms, rounded-zero, terms-zero-l, terms-zero-r}
+use Rattle.error_free.proofs.Steps.{top, HasExact}
 use Rattle.cdouble.proofs.SignedSteps.{offset, offset-signed, sub-offset, mul-offset}
 use Rattle.cdouble.proofs.SplitParts.{parts, alone}
 

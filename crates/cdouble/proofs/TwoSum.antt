@@ -11,8 +11,8 @@ use Rattle.exact.specs.Nearest.{toNearest}
 use Rattle.exact.proofs.Difference.{all, differences}
 use Rattle.cdouble.specs.Compensated.{_⊕_, _⊖_, twoSum}
 use Rattle.cdouble.specs.Exactness.{SumRange, IsExact}
-use Rattle.cdouble.proofs.Knuth.{knuth}
-use Rattle.cdouble.proofs.Steps.{HasExact, known, as-value, known-exactly, known-double, is-double, double-as, zero-double, in-range, add-rounded, sub-rounded, add-kept, sub-kept}
+use Rattle.error_free.proofs.Knuth.{knuth}
+use Rattle.error_free.proofs.Steps.{HasExact, known, as-value, known-exactly, known-double, is-double, double-as, zero-double, in-range, add-rounded, sub-rounded, add-kept, sub-kept}
 
 -- the parts, by their exact values
 made : (a b x y : Float) (c z : ℤ) → HasExact c x → HasExact ((exact a -ℤ (c -ℤ z)) +ℤ (exact b -ℤ z)) y → c ≡ toNearest 0 (exact a +ℤ exact b) → IsExact 0 (exact a +ℤ exact b) (record { hi = x; lo = y })

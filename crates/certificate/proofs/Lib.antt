@@ -1,4 +1,3 @@
-pub mod Branches
 pub mod Lengths
 pub mod Turns
 pub mod Rows

@@ -10,15 +10,16 @@ use lib.Dec.{eqb, leb, ltb}
 use lib.ListN.{length, getD}
 use Rattle.exact.proofs.Naturals.{le-or-lt}
 use Rattle.questions.specs.Places.{allBelow}
-use Rattle.questions.specs.Rows.{RowsLie, slackOf}
-use Rattle.questions.specs.Questions.{columnFineAt, rowColumnsFine, rowColumnsFineAt, columnsFine}
+use Rattle.row_questions.specs.Rows.{RowsLie, slackOf}
+use Rattle.row_questions.specs.Questions.{columnFineAt, rowColumnsFine, rowColumnsFineAt, columnsFine}
 use Rattle.questions.proofs.All.{each, all-at, and-left}
 use Rattle.sheet.specs.Sheet.{Sheet, variables}
 use Rattle.sheet.specs.Answers.{Accepted}
 use Rattle.sheet.proofs.Accepted.{AllYes, all-yes, rows-lie}
 use Rattle.sheet.proofs.Consequences.{by-row, by-variable}
 use Rattle.certificate.specs.System.{systemOf, rowColumns}
-use Rattle.certificate.specs.Reads.{Within, RowReadable}
+use Rattle.added_row.specs.Reads.{Within}
+use Rattle.certificate.specs.Reads.{RowReadable}
 
 -- ---- 5: a row's columns are variables
 columns-within : (structurals slack : ℕ) (columns : List ℕ) → structurals ≤ slack → rowColumnsFine structurals slack columns ≡ true → (k : ℕ) → k < length columns → getD columns k 0 ≤ slack

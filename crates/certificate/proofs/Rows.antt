@@ -5,14 +5,17 @@ use mathlib.Core.List.{List}
 use Prim.Native.Nat.{ℕ, zero, suc, _+_, _-_, _<_, _≤_, _^_}
 use lib.ListN.{length, getD}
 use lib.Ieee.{Float}
-use Rattle.certificate.specs.declared.combine.Sums.{Sums}
+use Rattle.added_row.specs.declared.adding.Sums.{Sums}
 use Rattle.multipliers.specs.declared.weighing.Multiplier.{Multiplier}
 use Rattle.multipliers.specs.declared.weighing.Spread.{Spread}
 use Rattle.multipliers.specs.Multipliers.{spreads}
 use Rattle.certificate.specs.System.{System, errorAt, multiplierAt, rightSideAt, rowColumns, rowEntries}
-use Rattle.certificate.specs.Certificate.{Lists, Certificate, certificate, keptInto, spreadInto, noSums, summed, withRow, afterRows}
-use Rattle.certificate.specs.Reads.{RowFits, ErrorsFit, Counted, RowGoesOn, RowsGoOn}
-use Rattle.certificate.proofs.Lengths.{Same, same, after-rows-same, lent-same, part-long, row-counted}
+use Rattle.added_row.specs.Added.{Lists, keptInto, spreadInto, noSums, summed}
+use Rattle.certificate.specs.Certificate.{Certificate, certificate, withRow, afterRows}
+use Rattle.added_row.specs.Reads.{RowFits, ErrorsFit}
+use Rattle.certificate.specs.Reads.{Counted, RowGoesOn, RowsGoOn}
+use Rattle.added_row.proofs.Lengths.{Same, same}
+use Rattle.certificate.proofs.Lengths.{after-rows-same, lent-same, part-long, row-counted}
 use Rattle.exact.proofs.Turns.{Turn, first, next}
 
 -- ---- one row: what its functions ask, and what they make together

@@ -10,16 +10,20 @@ use lib.Ieee.{Float, nan, eq}
 use Rattle.doubles.specs.Compare.{absolute}
 use Rattle.cdouble.specs.declared.CDouble.{CDouble}
 use Rattle.cdouble.specs.Compensated.{_⊕_, _⊗_, plusScaled, plusZero, value}
-use Rattle.questions.specs.Rows.{isSet, slackOf}
+use Rattle.questions.specs.Flags.{isSet}
+use Rattle.row_questions.specs.Rows.{slackOf}
 use Rattle.multipliers.specs.declared.weighing.Multiplier.{Multiplier}
 use Rattle.multipliers.specs.declared.weighing.Multiplier.the-variants.{Zeroed, Dropped, Kept}
 use Rattle.multipliers.specs.declared.weighing.Spread.{Spread}
 use Rattle.multipliers.specs.declared.weighing.Spread.the-variants.{Nothing, By}
 use Rattle.multipliers.specs.Multipliers.{needsInfiniteSide, spreads, weighed}
 use Rattle.certificate.specs.System.{System, errorAt, signedAt, multiplierAt, rightSideAt, rowColumns, rowEntries}
-use Rattle.certificate.specs.Certificate.{Lists, lists, Certificate, certificate, pairAt, withTerm, afterTerms, keptInto, withError, afterErrors, spreadInto, noSums, summed, withRow, afterRows, empty, combined, over, written, filled}
-use Rattle.certificate.specs.Reads.{Long, Within, RowsGoOn, CertificateFits}
-use Rattle.certificate.proofs.Lengths.{Same, after-terms-same, after-errors-same, filled-same, after-rows-same, long-same, lent-same}
+use Rattle.added_row.specs.Added.{Lists, lists, pairAt, withTerm, afterTerms, keptInto, withError, afterErrors, spreadInto, noSums, summed}
+use Rattle.certificate.specs.Certificate.{Certificate, certificate, withRow, afterRows, empty, combined, over, written, filled}
+use Rattle.added_row.specs.Reads.{Long, Within}
+use Rattle.certificate.specs.Reads.{RowsGoOn, CertificateFits}
+use Rattle.added_row.proofs.Lengths.{Same, after-terms-same, after-errors-same, long-same}
+use Rattle.certificate.proofs.Lengths.{filled-same, after-rows-same, lent-same}
 
 -- ---- lists with more places beyond
 abbrev pub beyond : Lists → Lists → Lists

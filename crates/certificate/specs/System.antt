@@ -6,7 +6,8 @@ use lib.ListN.{getD}
 use lib.Ieee.{Float, nan}
 use Rattle.doubles.specs.Compare.{absolute}
 use Rattle.cdouble.specs.declared.CDouble.{CDouble}
-use Rattle.questions.specs.Rows.{isSet, part, slackOf}
+use Rattle.questions.specs.Flags.{isSet}
+use Rattle.row_questions.specs.Rows.{part, slackOf}
 use Rattle.sheet.specs.Sheet.{Sheet}
 use Rattle.multipliers.specs.declared.weighing.Multiplier.{Multiplier}
 use Rattle.multipliers.specs.Refinement.{errorBounds, rhoAt}

@@ -1,5 +1,4 @@
 //! The certificate that a row of the basis inverse suggests: the rows, each times its multiplier, added up.
 mod combine;
 
-pub use combine::Sums;
 pub use combine::certificate;

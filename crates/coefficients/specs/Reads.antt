@@ -4,9 +4,9 @@ use mathlib.Core.List.{List}
 use Prim.Native.Nat.{ℕ, _+_, _≤_, _<_}
 use lib.ListN.{length, getD}
 use lib.Ieee.{Float}
-use Rattle.questions.specs.Rows.{slackOf}
+use Rattle.row_questions.specs.Rows.{slackOf}
 use Rattle.certificate.specs.System.{System, rowColumns}
-use Rattle.certificate.specs.Reads.{Within}
+use Rattle.added_row.specs.Reads.{Within}
 use Rattle.coefficients.specs.Ends.{Cleared}
 
 -- both lists have a place for each of count variables

@@ -11,9 +11,9 @@ ghost use Rattle.gaps.specs.Steps.{afterEntries, rightSide, withRightSide, with
 ghost use Rattle.coefficients.specs.Ends.{Ends, RowAdded, added, endsOver};
 ghost use Rattle.coefficients.specs.Reads.{EntriesFit, RowFits, RowsFit};
 use cdouble::CDouble;
-use doubles::product_bounds;
-use doubles::sum_down;
-use doubles::sum_up;
+use directed::product_bounds;
+use directed::sum_down;
+use directed::with_scaled;
 use multipliers::Multiplier;
 use multipliers::multiplier_at;
 
@@ -22,10 +22,9 @@ fn add_term(y: CDouble, v: usize, a: f64, lower: &mut [f64], upper: &mut [f64])
     requires { ⌜ (v < length (now lower)) × (v < length (now upper)) ⌝ }
     ensures { λ _. ⌜ (now (lower .exit) ≡ added sumDown productDown y v a (now (lower .entry))) × (now (upper .exit) ≡ added sumUp productUp y v a (now (upper .entry))) ⌝ }
 {
-    let high = product_bounds(y.hi, a);
-    let low = product_bounds(y.lo, a);
-    lower[v] = sum_down(sum_down(lower[v], high.down), low.down);
-    upper[v] = sum_up(sum_up(upper[v], high.up), low.up);
+    let ends = with_scaled(y, a, lower[v], upper[v]);
+    lower[v] = ends.down;
+    upper[v] = ends.up;
 }
 
 /// A kept row, entry by entry.

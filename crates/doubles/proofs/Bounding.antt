@@ -12,11 +12,11 @@ use lib.Ieee.Scale.{finite}
 use Rattle.exact.specs.Value.{sign, signed, exact}
 use Rattle.exact.proofs.Naturals.{le-or-lt}
 use Rattle.exact.proofs.Signed.{signed-zero, signed-+, signed--, signed-*}
-use Rattle.doubles.specs.Rank.{atRank, rankDown, rankUp, largest, infinity, double}
+use Rattle.rank_arithmetic.specs.Rank.{atRank, rankDown, rankUp, largest, infinity, double}
 use Rattle.doubles.specs.Directed.{withZero, roundDown, roundUp, sumWith, productWith}
-use Rattle.doubles.proofs.Grid.{atRank-zero, atRank-lt, atRank-step, rankUp-iff}
-use Rattle.doubles.proofs.RankSums.{rankDown-between}
-use Rattle.doubles.proofs.WideRanks.{RankBounds}
+use Rattle.rank_arithmetic.proofs.Grid.{atRank-zero, atRank-lt, atRank-step, rankUp-iff}
+use Rattle.rank_arithmetic.proofs.RankSums.{rankDown-between}
+use Rattle.rank_arithmetic.proofs.WideRanks.{RankBounds}
 use Rattle.doubles.proofs.Patterns.{rankOf, pattern, ranked, finite-no-nan, sign-test, rankOf-mod}
 use Rattle.doubles.proofs.Zero.{zero-plus}
 use Rattle.doubles.proofs.Mirror.{rankDown-zero, rankUp-zero}

@@ -14,9 +14,9 @@ use Rattle.exact.specs.Value.{sign, signed, exact, exactAt}
 use Rattle.exact.specs.Integers.{_≼_}
 use Rattle.exact.proofs.Naturals.{le-or-lt}
 use Rattle.exact.proofs.Signed.{SignedLe, signed-scale, signed-≼}
-use Rattle.doubles.specs.Rank.{atRank, rankDown, rankUp, largest, infinity, double}
+use Rattle.rank_arithmetic.specs.Rank.{atRank, rankDown, rankUp, largest, infinity, double}
 use Rattle.doubles.specs.Directed.{withZero, roundUp, IsUp}
-use Rattle.doubles.proofs.Grid.{atRank-zero, atRank-mono, rankDown-iff, rankUp-iff}
+use Rattle.rank_arithmetic.proofs.Grid.{atRank-zero, atRank-mono, rankDown-iff, rankUp-iff}
 use Rattle.doubles.proofs.Patterns.{rankOf, Ranked, ranked, exact-double, infinite-rank, double-fits, finite-no-nan}
 use Rattle.doubles.proofs.Zero.{exact-withZero, finite-withZero, fits-withZero}
 

@@ -13,8 +13,8 @@ use Rattle.exact.specs.Value.{sign}
 use Rattle.exact.proofs.Naturals.{le-or-lt}
 use Rattle.exact.proofs.Signed.{SignedLt, signed-≺}
 use Rattle.exact.proofs.Compare.{same-bool, lt-to, lt-of}
-use Rattle.doubles.specs.Rank.{atRank, infinity}
-use Rattle.doubles.proofs.Grid.{atRank-zero, atRank-lt, atRank-mono}
+use Rattle.rank_arithmetic.specs.Rank.{atRank, infinity}
+use Rattle.rank_arithmetic.proofs.Grid.{atRank-zero, atRank-lt, atRank-mono}
 use Rattle.doubles.proofs.Patterns.{rankOf, pattern, ranked, sign-test}
 
 abbrev pub key : Bool → ℕ → ℕ

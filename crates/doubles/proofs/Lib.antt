@@ -1,9 +1,3 @@
-pub mod Grid
-pub mod TwoWords
-pub mod Shift
-pub mod WideRanks
-pub mod RankFields
-pub mod RankSums
 pub mod Patterns
 pub mod Zero
 pub mod Directed

@@ -13,9 +13,9 @@ use Rattle.exact.specs.Value.{exact, exactAt}
 use Rattle.exact.specs.Integers.{_≼_}
 use Rattle.exact.proofs.Order.{neg-≼}
 use Rattle.exact.proofs.Values.{exact-neg, exactAt-neg, finite-neg, neg-neg}
-use Rattle.doubles.specs.Rank.{atRank, rankDown, rankUp, largest, infinity, double}
+use Rattle.rank_arithmetic.specs.Rank.{atRank, rankDown, rankUp, largest, infinity, double}
 use Rattle.doubles.specs.Directed.{withZero, roundUp, roundDown, IsUp, IsDown}
-use Rattle.doubles.proofs.Grid.{atRank-lt, rankDown-iff}
+use Rattle.rank_arithmetic.proofs.Grid.{atRank-lt, rankDown-iff}
 use Rattle.doubles.proofs.Patterns.{double-sign, neg-double}
 use Rattle.doubles.proofs.Zero.{zero-plus, exact-withZero, finite-withZero, nan-withZero, fits-withZero, neg-withZero, withZero-twice, withZero-own, infinity-withZero}
 use Rattle.doubles.proofs.Directed.{round-up-law}

@@ -13,7 +13,7 @@ use Rattle.exact.specs.Integers.{_≼_, _≺_}
 use Rattle.exact.proofs.Difference.{all, differences}
 use Rattle.exact.proofs.Order.{≼-antisym, ≼-or-≺, ≺-not-≼}
 use Rattle.exact.proofs.Values.{exact-neg, exactAt-neg, finite-neg, neg-neg}
-use Rattle.doubles.specs.Rank.{largest}
+use Rattle.rank_arithmetic.specs.Rank.{largest}
 use Rattle.doubles.specs.Directed.{withZero, roundUp, roundDown, IsUp, IsDown}
 use Rattle.doubles.specs.Neighbours.{nextUp, nextDown, IsNextUp, IsNextDown}
 use Rattle.doubles.proofs.Patterns.{neg-double, double-fits}

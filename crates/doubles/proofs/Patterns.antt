@@ -13,8 +13,8 @@ use lib.Ieee.Scale.{finite}
 use Rattle.exact.specs.Value.{sign, magnitude, signed, exact}
 use Rattle.exact.proofs.Naturals.{le-or-lt}
 use Rattle.exact.proofs.Values.{whole, value-of, exact-of}
-use Rattle.doubles.specs.Rank.{atRank, rank, infinity, double}
-use Rattle.doubles.proofs.Grid.{atRank-form, rank-min}
+use Rattle.rank_arithmetic.specs.Rank.{atRank, rank, infinity, double}
+use Rattle.rank_arithmetic.proofs.Grid.{atRank-form, rank-min}
 
 -- ---- from a sign and a rank to a double
 field-value : (s : Bool) (x t : ℕ) → x < 2047 → t < 2 ^ 52 → HasValue (ofFields binary64 s x t) s (atRank 52 (x * 2 ^ 52 + t)) (2 ^ 1074)

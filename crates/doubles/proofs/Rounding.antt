@@ -17,9 +17,9 @@ use Rattle.exact.proofs.Order.{≼-refl, ≼-trans, ≼-antisym, ≺-not-≼, n
 use Rattle.exact.proofs.Signed.{SignedLe, signed-≼}
 use Rattle.exact.proofs.Compare.{le-exact, le-top, le-bottom}
 use Rattle.exact.proofs.Values.{exactAt-neg, finite-neg, neg-neg}
-use Rattle.doubles.specs.Rank.{atRank, largest, infinity, double}
+use Rattle.rank_arithmetic.specs.Rank.{atRank, largest, infinity, double}
 use Rattle.doubles.specs.Directed.{withZero, roundUp, roundDown, IsUp, IsDown}
-use Rattle.doubles.proofs.Grid.{atRank-mono}
+use Rattle.rank_arithmetic.proofs.Grid.{atRank-mono}
 use Rattle.doubles.proofs.Patterns.{rankOf, ranked, exact-double, double-fits, double-sign}
 use Rattle.doubles.proofs.Zero.{withZero-own, neg-withZero, withZero-twice}
 use Rattle.doubles.proofs.Unique.{exact-unique}

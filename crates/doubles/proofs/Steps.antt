@@ -12,10 +12,10 @@ use Rattle.exact.specs.Value.{sign, signed, exactAt}
 use Rattle.exact.proofs.Difference.{differences}
 use Rattle.exact.proofs.Naturals.{le-or-lt}
 use Rattle.exact.proofs.Signed.{signed-scale}
-use Rattle.doubles.specs.Rank.{atRank, rankDown, rankUp, largest, infinity, double}
+use Rattle.rank_arithmetic.specs.Rank.{atRank, rankDown, rankUp, largest, infinity, double}
 use Rattle.doubles.specs.Directed.{withZero, roundUp}
 use Rattle.doubles.specs.Neighbours.{nextUp}
-use Rattle.doubles.proofs.Grid.{atRank-zero, atRank-step, rankDown-iff, rankUp-iff}
+use Rattle.rank_arithmetic.proofs.Grid.{atRank-zero, atRank-step, rankDown-iff, rankUp-iff}
 use Rattle.doubles.proofs.Patterns.{Pattern, rankOf, pattern, ranked, double-sign, double-infinity}
 use Rattle.doubles.proofs.Zero.{withZero-twice, withZero-own, withZero-rank}
 

@@ -8,7 +8,7 @@ use lib.Ieee.Bits.{is-true}
 use lib.Ieee.Compare.{nan-differs, differs-from-itself}
 use lib.Ieee.Scale.{finite}
 use Rattle.exact.specs.Value.{sign, magnitude}
-use Rattle.doubles.specs.Rank.{infinity, double}
+use Rattle.rank_arithmetic.specs.Rank.{infinity, double}
 use Rattle.doubles.specs.Compare.{absolute}
 use Rattle.doubles.proofs.Patterns.{rankOf, pattern, rankOf-mod, ranked, double-infinity}
 

@@ -12,9 +12,9 @@ use Rattle.exact.specs.Value.{sign, signed, exact}
 use Rattle.exact.specs.Integers.{_≼_}
 use Rattle.exact.proofs.Order.{≼-refl}
 use Rattle.exact.proofs.Signed.{signed-abs, signed-≼}
-use Rattle.doubles.specs.Rank.{atRank, double}
+use Rattle.rank_arithmetic.specs.Rank.{atRank, double}
 use Rattle.doubles.specs.Directed.{withZero}
-use Rattle.doubles.proofs.Grid.{atRank-lt, rank-atRank}
+use Rattle.rank_arithmetic.proofs.Grid.{atRank-lt, rank-atRank}
 use Rattle.doubles.proofs.Zero.{zero-plus}
 use Rattle.doubles.proofs.Patterns.{rankOf, pattern, ranked, finite-no-nan}
 
@@ -37,7 +37,7 @@ exact-unique x y f h g k e =
     let Y = ranked y g k in
     let w : signed (sign x) (atRank 52 (rankOf x)) ≡ signed (sign y) (atRank 52 (rankOf y)) = sym (X .value) ∙ e ∙ Y .value in
     let v : atRank 52 (rankOf x) ≡ atRank 52 (rankOf y) = sym (signed-abs (sign x) (atRank 52 (rankOf x))) ∙ ap natAbs w ∙ signed-abs (sign y) (atRank 52 (rankOf y)) in
-    let p : rankOf x ≡ rankOf y = sym (rank-atRank 52 (rankOf x)) ∙ ap (Rattle.doubles.specs.Rank.rank 52) v ∙ rank-atRank 52 (rankOf y) in
+    let p : rankOf x ≡ rankOf y = sym (rank-atRank 52 (rankOf x)) ∙ ap (Rattle.rank_arithmetic.specs.Rank.rank 52) v ∙ rank-atRank 52 (rankOf y) in
     ap (withZero false) (pattern x (finite-no-nan x f) h .same ∙ ap (double (sign x)) p)
     ∙ by-rank (sign x) (sign y) (rankOf y) (ap (λ (n : ℕ). signed (sign x) n) (sym v) ∙ w)
     ∙ ap (withZero false) (sym (pattern y (finite-no-nan y g) k .same))

@@ -12,8 +12,8 @@ use Rattle.exact.specs.Value.{sign, magnitude, signed, exact}
 use Rattle.exact.proofs.Naturals.{le-or-lt}
 use Rattle.exact.proofs.Values.{exact-is}
 use Rattle.exact.proofs.Signed.{signed-zero}
-use Rattle.doubles.specs.Rank.{infinity, double}
-use Rattle.doubles.proofs.Grid.{atRank-lt}
+use Rattle.rank_arithmetic.specs.Rank.{infinity, double}
+use Rattle.rank_arithmetic.proofs.Grid.{atRank-lt}
 use Rattle.doubles.specs.Directed.{withZero}
 use Rattle.doubles.proofs.Patterns.{infinite-rank, magnitude-double}
 

@@ -8,7 +8,7 @@ use lib.Ieee.{Float, nan, inf, fin, binary64, mul, fits, isNan}
 use lib.Ieee.Scale.{finite}
 use Rattle.exact.specs.Value.{exact, exactAt}
 use Rattle.exact.specs.Integers.{_≼_}
-use Rattle.doubles.specs.Rank.{rankDown, rankUp, largest, infinity, double}
+use Rattle.rank_arithmetic.specs.Rank.{rankDown, rankUp, largest, infinity, double}
 
 -- the same double, a zero taken with the sign s
 abbrev pub withZero : Bool → Float → Float

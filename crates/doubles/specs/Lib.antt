@@ -1,4 +1,3 @@
-pub mod Rank
 pub mod Directed
 pub mod Neighbours
 pub mod Compare

@@ -7,7 +7,7 @@ use lib.Ieee.{Float, nan, inf, fin, binary64, fits, isNan}
 use lib.Ieee.Scale.{finite}
 use Rattle.exact.specs.Value.{exact, exactAt}
 use Rattle.exact.specs.Integers.{_≼_, _≺_}
-use Rattle.doubles.specs.Rank.{largest, double}
+use Rattle.rank_arithmetic.specs.Rank.{largest, double}
 use Rattle.doubles.specs.Directed.{withZero, roundDown, roundUp}
 
 -- the least double above x is the least that is not below x and half a unit. It is +infinity past MAX, and stays there.

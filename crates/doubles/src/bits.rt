@@ -6,7 +6,7 @@ ghost use Prim.Native.Nat.{_+_, _-_, _^_, _≤_};
 ghost use lib.Dec.{T, leb};
 ghost use lib.Ieee.{binary64, toBits, isNan};
 ghost use lib.Ieee.Scale.{finite};
-ghost use Rattle.doubles.specs.Rank.{double, infinity};
+ghost use Rattle.rank_arithmetic.specs.Rank.{double, infinity};
 ghost use Rattle.doubles.specs.Compare.{absolute, larger, smaller};
 
 /// The bit pattern of -0, in which only the sign is set.

@@ -3,8 +3,6 @@
 mod bits;
 mod neighbours;
 mod outward;
-mod ranks;
-mod words;
 
 pub use bits::abs;
 pub use bits::is_finite;

@@ -6,15 +6,15 @@ ghost use lib.Dec.{T};
 ghost use lib.IntN.{_*ℤ_, _+ℤ_};
 ghost use lib.Ieee.Scale.{finite};
 ghost use Rattle.exact.specs.Value.{exact, signed};
-ghost use Rattle.doubles.specs.Rank.{atRank, double, infinity};
+ghost use Rattle.rank_arithmetic.specs.Rank.{atRank, double, infinity};
 ghost use Rattle.doubles.specs.Directed.{productDown, productUp, roundDown, roundUp, sumDown, sumUp, withZero};
 use crate::bits::SIGN;
 use crate::bits::is_finite;
 use crate::bits::negative;
 use crate::bits::positive;
-use crate::ranks::rank_difference;
-use crate::ranks::rank_product;
-use crate::ranks::rank_sum;
+use rank_arithmetic::rank_difference;
+use rank_arithmetic::rank_product;
+use rank_arithmetic::rank_sum;
 
 /// A lower and an upper bound.
 pub struct Bounds {

@@ -23,20 +23,20 @@ use Rattle.doubles.proofs.Clear.{absolute-fits, absolute-clear}
 use Rattle.cdouble.specs.Compensated.{_⊕_, _⊖_, _⊗_, plusZero}
 use Rattle.cdouble.proofs.RoundedUp.{exact-zero, zero-fits}
 use Rattle.sheet.specs.Sheet.{Sheet, variables, Doubles}
-use Rattle.questions.specs.Rows.{part}
-use Rattle.questions.specs.Places.{holdsPlace}
+use Rattle.row_questions.specs.Rows.{part, RowsLie}
+use Rattle.place_questions.specs.Places.{holdsPlace}
 use Rattle.sheet.specs.Answers.{Accepted}
-use Rattle.questions.specs.Rows.{RowsLie}
 use Rattle.sheet.proofs.Accepted.{AllYes, all-yes, rows-lie}
 use Rattle.sheet.proofs.Consequences.{Plain, lengths, by-variable, by-row, range-at, low-plain, high-plain, feasibility-plain, scale-plain, product-finite, Holds, holder, one-holder, leaving-lt}
 use Rattle.tolerances.specs.Tolerances.{toward, slackMargin, slackTol}
 use Rattle.tolerances.specs.BandEdge.{bandEdge}
 use Rattle.tolerances.proofs.Room.{trimmed-room-fits, trimmed-room-law, no-minus-zero}
 use Rattle.tolerances.proofs.BandEdge.{band-edge-law, band-edge-fits}
-use Rattle.edges.specs.declared.activity.Activity.{Activity}
+use Rattle.row_values.specs.declared.activity.Activity.{Activity}
 use Rattle.edges.specs.Model.{modelOf, boundOf, tolsOf}
-use Rattle.edges.specs.Activity.{activity, withEntry, afterEntries, rowActivity, rowTerms, slackRoom, slackRoomAt}
-use Rattle.edges.specs.Edges.{isWidened, holdsOnBounds, wideningRoom, holderFrom, leavingVariable, edge, lowEdge, highEdge}
+use Rattle.row_values.specs.Activity.{activity, withEntry, afterEntries, rowActivity, rowTerms, slackRoom}
+use Rattle.edges.specs.Edges.{slackRoomAt, wideningRoom, leavingVariable, edge, lowEdge, highEdge}
+use Rattle.variable_kinds.specs.Variables.{isWidened, holdsOnBounds, holderFrom}
 use Rattle.edges.specs.Reads.{RowReadable, Readable}
 
 -- ---- what is to hold of an edge, whichever way it is chosen

@@ -1,62 +1,17 @@
--- What the branches of the functions over variables show. Assumes nothing.
+-- What the branches of `widening_room` and `edge` show, from what their calls gave. Assumes nothing.
 use mathlib.Core.Path.{_≡_, refl, ap, sym, _∙_}
-use mathlib.Core.Bool.{Bool, true, false, not, _&&_, _||_}
-use mathlib.Core.List.{List}
+use mathlib.Core.Bool.{Bool, true, false, not}
 use Prim.Native.Nat.{ℕ, _-_, _<_, _≤_}
 use borrow.Author.Tests.{not-true, not-false, lt-ltb, le-ltb, eq-eqb, ne-eqb}
-use lib.Dec.{ltb}
-use lib.ListN.{getD}
-use lib.Ieee.{Float, nan, eq}
+use lib.Ieee.{Float}
 use lib.Ieee.Scale.{finite}
-use Rattle.doubles.specs.Compare.{absolute}
-use Rattle.cdouble.specs.Compensated.{_⊕_, _⊗_, plusZero}
+use Rattle.cdouble.specs.Compensated.{plusZero}
 use Rattle.cdouble.proofs.Contracts.{when-true, when-false}
-use Rattle.questions.specs.Rows.{isSet}
-use Rattle.tolerances.specs.Tolerances.{toward, trimmedRoom}
+use Rattle.tolerances.specs.Tolerances.{toward}
 use Rattle.tolerances.specs.BandEdge.{bandEdge}
-use Rattle.edges.specs.declared.activity.Activity.{Activity}
 use Rattle.edges.specs.Model.{Model, boundOf, tolsOf}
-use Rattle.edges.specs.Activity.{activity, withEntry, rowActivity, rowTerms, slackRoom, slackRoomAt}
-use Rattle.edges.specs.Edges.{isWidened, isInteger, holdsOnBounds, wideningRoom, edge}
-
--- ---- an entry of a row
-pub entry-structural : (structurals : ℕ) (values : List Float) (v : ℕ) (coeff : Float) (a : Activity) {x : Float} → v < structurals → x ≡ absolute (coeff ⊗ getD values v nan)
-    → activity (a .lhs ⊕ coeff ⊗ getD values v nan) (a .magnitude ⊕ x) ≡ withEntry structurals values v coeff a
-entry-structural structurals values v coeff a less e = rw e (rw (lt-ltb v structurals less) refl)
-
-pub entry-slack : (structurals : ℕ) (values : List Float) (v : ℕ) (coeff : Float) (a : Activity) → structurals ≤ v → a ≡ withEntry structurals values v coeff a
-entry-slack structurals values v coeff a above = rw (le-ltb v structurals above) refl
-
--- ---- `slack_room`, from what its calls gave
-pub slack-room-is : (structurals : ℕ) (feasibility rightSide scale : Float) (columns : List ℕ) (entries values : List Float) {a : Activity} {n : ℕ} {r : Float}
-    → a ≡ rowActivity structurals rightSide columns entries values → n ≡ rowTerms columns → r ≡ trimmedRoom (feasibility ⊗ scale) (a .magnitude) n
-    → r ≡ slackRoom structurals feasibility rightSide scale columns entries values
-unfolding slackRoom
-slack-room-is structurals feasibility rightSide scale columns entries values {a} {n} acts counts e =
-    e
-    ∙ ap (λ (b : Activity). trimmedRoom (feasibility ⊗ scale) (b .magnitude) n) acts
-    ∙ ap (λ (k : ℕ). trimmedRoom (feasibility ⊗ scale) (rowActivity structurals rightSide columns entries values .magnitude) k) counts
-
--- ---- `is_integer`
-pub integer-is : (structurals : ℕ) (integer : List ℕ) (v : ℕ) → v < structurals → isSet (getD integer v 0) ≡ isInteger structurals integer v
-integer-is structurals integer v less = rw (lt-ltb v structurals less) refl
-
-pub integer-not : (structurals : ℕ) (integer : List ℕ) (v : ℕ) → structurals ≤ v → false ≡ isInteger structurals integer v
-integer-not structurals integer v above = rw (le-ltb v structurals above) refl
-
--- ---- `holds_on_bounds`, from what `is_integer` gave
-module _ (structurals : ℕ) (integer : List ℕ) (mins maxs : List Float) (v : ℕ) {r : Bool} (is : r ≡ isInteger structurals integer v) where
-  pub holds-integer : r ≡ true → true ≡ holdsOnBounds structurals integer mins maxs v
-  unfolding holdsOnBounds
-  holds-integer t = ap (λ (b : Bool). b || (ltb v structurals && eq (getD mins v nan) (getD maxs v nan))) (sym t ∙ is)
-
-  pub holds-fixed : r ≡ false → v < structurals → eq (getD mins v nan) (getD maxs v nan) ≡ holdsOnBounds structurals integer mins maxs v
-  unfolding holdsOnBounds
-  holds-fixed t less = rw (sym (sym t ∙ is)) (rw (lt-ltb v structurals less) refl)
-
-  pub holds-not : r ≡ false → structurals ≤ v → false ≡ holdsOnBounds structurals integer mins maxs v
-  unfolding holdsOnBounds
-  holds-not t above = rw (sym (sym t ∙ is)) (rw (le-ltb v structurals above) refl)
+use Rattle.edges.specs.Edges.{slackRoomAt, wideningRoom, edge}
+use Rattle.variable_kinds.specs.Variables.{isWidened, holdsOnBounds}
 
 -- ---- `widening_room`, from what its calls gave
 module _ (m : Model) (v : ℕ) (up : Bool) {w : Bool} (is : w ≡ isWidened (m .widenedVariables) (m .widenedUps) v up) where

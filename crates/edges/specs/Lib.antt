@@ -1,4 +1,3 @@
 pub mod Model
-pub mod Activity
 pub mod Edges
 pub mod Reads

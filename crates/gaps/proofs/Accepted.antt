@@ -10,8 +10,9 @@ use lib.Seq.{getD-take, getD-drop}
 use lib.Ieee.{Float, nan, inf, fin, le, lt, eq}
 use lib.Ieee.Scale.{finite}
 use Rattle.questions.specs.Places.{allBelow}
-use Rattle.questions.specs.Rows.{part}
-use Rattle.questions.specs.Questions.{allFinite, slackEntryFineAt, entriesFine}
+use Rattle.row_questions.specs.Rows.{part}
+use Rattle.questions.specs.Questions.{allFinite}
+use Rattle.row_questions.specs.Questions.{slackEntryFineAt, entriesFine}
 use Rattle.questions.proofs.All.{each}
 use Rattle.sheet.specs.Sheet.{Sheet, variables, Doubles}
 use Rattle.sheet.specs.Answers.{Accepted}

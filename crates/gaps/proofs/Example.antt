@@ -9,7 +9,7 @@ use lib.ListN.{getD}
 use lib.Ieee.{Float, inf, fin, lt, eq, isNan, neg, ofBits, size}
 use Rattle.exact.specs.Value.{exact, magnitude}
 use Rattle.exact.specs.Integers.{Σ<}
-use Rattle.doubles.specs.Rank.{rank, rankDown, rankUp}
+use Rattle.rank_arithmetic.specs.Rank.{rank, rankDown, rankUp}
 use Rattle.doubles.specs.Directed.{roundUp, roundDown, sumWith, productWith}
 use Rattle.doubles.specs.Compare.{larger}
 use Rattle.cdouble.specs.Compensated.{pair, plusZero}

@@ -4,7 +4,7 @@ use mathlib.Core.List.{map}
 use lib.Count.{trailingZeros}
 use lib.Ieee.{binary64, toBits, ofBits, ofFields, odd, size, units, round, neg, sum, add, sub, mul, div, lt, isNan, ofInt}
 use Rattle.exact.specs.Value.{exact, magnitude}
-use Rattle.doubles.specs.Rank.{rank, rankDown, rankUp}
+use Rattle.rank_arithmetic.specs.Rank.{rank, rankDown, rankUp}
 use Rattle.doubles.specs.Directed.{productWith, roundUp, roundDown}
 use Rattle.doubles.specs.Neighbours.{nextUp, nextDown}
 use Rattle.doubles.specs.Compare.{absolute, larger}

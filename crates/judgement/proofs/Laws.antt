@@ -9,7 +9,7 @@ use lib.Ieee.Scale.{finite}
 use Rattle.cdouble.specs.declared.CDouble.{CDouble}
 use Rattle.cdouble.specs.Compensated.{addUp, compensatedError, plusScaled, plusZero, value}
 use Rattle.cdouble.proofs.Contracts.{differ, when-false}
-use Rattle.certificate.specs.declared.combine.Sums.{Sums}
+use Rattle.added_row.specs.declared.adding.Sums.{Sums}
 use Rattle.edges.specs.Model.{Model}
 use Rattle.walk.specs.declared.steps.End.{End}
 use Rattle.walk.specs.declared.steps.End.the-variants.{Through, Spoilt as WalkSpoilt, Unlimited as WalkUnlimited}

@@ -11,9 +11,10 @@ use Rattle.cdouble.specs.declared.CDouble.{CDouble}
 use Rattle.cdouble.specs.Compensated.{addUp, compensatedError, pair, plus, plusProduct, plusScaled, plusZero, productError, split, twoProduct, twoSum, upper, value}
 use Rattle.multipliers.specs.declared.weighing.Multiplier.{Multiplier}
 use Rattle.multipliers.specs.declared.weighing.Multiplier.the-variants.{Zeroed, Dropped, Kept}
-use Rattle.certificate.specs.declared.combine.Sums.{Sums}
+use Rattle.added_row.specs.declared.adding.Sums.{Sums}
 use Rattle.certificate.specs.System.{System, multiplierAt, rightSideAt, rowColumns, rowEntries}
-use Rattle.certificate.specs.Certificate.{Certificate, Lists, afterRows, combined, empty, keptInto, pairAt, summed, withRow}
+use Rattle.certificate.specs.Certificate.{Certificate, afterRows, combined, empty, withRow}
+use Rattle.added_row.specs.Added.{Lists, keptInto, pairAt, summed}
 use Rattle.edges.specs.Model.{Model}
 use Rattle.walk.specs.declared.steps.End.the-variants.{Through}
 use Rattle.walk.specs.declared.steps.Walked.{Walked}

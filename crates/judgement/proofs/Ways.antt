@@ -10,13 +10,13 @@ use Rattle.doubles.specs.Compare.{absolute, smaller}
 use Rattle.cdouble.specs.declared.CDouble.{CDouble}
 use Rattle.cdouble.specs.Compensated.{_⊕_, _⊗_, addUp, compensatedError, plus, plusScaled, plusZero, rounded, value}
 use Rattle.cdouble.proofs.Contracts.{when-true, when-false}
-use Rattle.questions.specs.Rows.{part}
+use Rattle.row_questions.specs.Rows.{part}
 use Rattle.tolerances.specs.Tolerances.{impliedSlackError, slackMargin, two, unitRoundoff}
-use Rattle.certificate.specs.declared.combine.Sums.{Sums}
+use Rattle.added_row.specs.declared.adding.Sums.{Sums}
 use Rattle.certificate.specs.Certificate.{Certificate}
-use Rattle.edges.specs.declared.activity.Activity.{Activity}
+use Rattle.row_values.specs.declared.activity.Activity.{Activity}
 use Rattle.edges.specs.Model.{Model}
-use Rattle.edges.specs.Activity.{rowActivity, rowTerms}
+use Rattle.row_values.specs.Activity.{rowActivity, rowTerms}
 use Rattle.walk.specs.declared.steps.End.{End}
 use Rattle.walk.specs.declared.steps.End.the-variants.{Through}
 use Rattle.walk.specs.declared.steps.Walked.{Walked}

@@ -3,8 +3,8 @@ use mathlib.Core.List.{List}
 use Prim.Native.Nat.{ℕ, _<_}
 use lib.ListN.{length}
 use lib.Ieee.{Float}
-use Rattle.certificate.specs.declared.combine.Sums.{Sums}
-use Rattle.certificate.specs.Certificate.{Lists}
+use Rattle.added_row.specs.declared.adding.Sums.{Sums}
+use Rattle.added_row.specs.Added.{Lists}
 use Rattle.edges.specs.Model.{Model}
 use Rattle.edges.specs.Reads.{Readable}
 use Rattle.walk.specs.Reads.{WalkFits}

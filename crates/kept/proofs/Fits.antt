@@ -19,12 +19,13 @@ use Rattle.edges.specs.Model.{modelOf}
 use Rattle.edges.specs.Edges.{leavingVariable}
 use Rattle.edges.proofs.Laws.{readable, leaving-holds}
 use Rattle.certificate.specs.System.{systemOf}
-use Rattle.certificate.specs.Certificate.{Lists, empty, combined}
+use Rattle.added_row.specs.Added.{Lists}
+use Rattle.certificate.specs.Certificate.{empty, combined}
 use Rattle.certificate.specs.Reads.{Lent, RowsGoOn, CertificateFits}
 use Rattle.certificate.proofs.Rows.{rows-counted}
 use Rattle.certificate.proofs.Readable.{lie, row-readable}
 use Rattle.judgement.specs.Reads.{JudgeFits}
-use Rattle.certificate.specs.declared.combine.Sums.{Sums}
+use Rattle.added_row.specs.declared.adding.Sums.{Sums}
 use Rattle.sheet.specs.declared.answers.Outputs.{Outputs}
 use Rattle.certificate.proofs.Lengths.{after-rows-same, lent-same}
 use Rattle.kept.specs.Kept.{outputs, certificateOf}

@@ -9,14 +9,15 @@ use lib.ListN.{length, getD, drop, length-append}
 use lib.Ieee.{Float, nan}
 use Rattle.cdouble.specs.Compensated.{plusZero}
 use Rattle.cdouble.proofs.Contracts.{when-true, when-false}
-use Rattle.questions.specs.Rows.{isSet}
+use Rattle.questions.specs.Flags.{isSet}
 use Rattle.sheet.specs.Sheet.{Sheet, variables}
 use Rattle.sheet.specs.Answers.{Accepted, firstNo}
 use Rattle.edges.specs.Model.{Model, modelOf}
 use Rattle.edges.specs.Edges.{leavingVariable}
-use Rattle.certificate.specs.declared.combine.Sums.{Sums}
+use Rattle.added_row.specs.declared.adding.Sums.{Sums}
 use Rattle.certificate.specs.System.{System, system, systemOf}
-use Rattle.certificate.specs.Certificate.{Lists, Certificate, certificate, combined, over, written}
+use Rattle.added_row.specs.Added.{Lists}
+use Rattle.certificate.specs.Certificate.{Certificate, certificate, combined, over, written}
 use Rattle.certificate.specs.Reads.{Lent, CertificateFits}
 use Rattle.walk.specs.declared.steps.Coefficient.{Coefficient}
 use Rattle.walk.specs.Walk.{coefficientAt, step, onward, walkOver}

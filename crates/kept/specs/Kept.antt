@@ -14,7 +14,8 @@ use Rattle.sheet.specs.Answers.{firstNo}
 use Rattle.edges.specs.Model.{modelOf}
 use Rattle.edges.specs.Edges.{leavingVariable}
 use Rattle.certificate.specs.System.{systemOf}
-use Rattle.certificate.specs.Certificate.{Lists, Certificate, combined, written}
+use Rattle.added_row.specs.Added.{Lists}
+use Rattle.certificate.specs.Certificate.{Certificate, combined, written}
 use Rattle.judgement.specs.declared.gap.Proof.{Proof}
 use Rattle.judgement.specs.Judgement.{judgement}
 use Rattle.kept.specs.declared.Kept.{Kept}

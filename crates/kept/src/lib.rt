@@ -3,10 +3,9 @@
 ghost use mathlib.Core.Path.{_≡_};
 ghost use Rattle.sheet.specs.Sheet.{sheet};
 ghost use Rattle.sheet.specs.Answers.{Accepted};
-ghost use Rattle.certificate.specs.Certificate.{lists};
+ghost use Rattle.added_row.specs.Added.{lists};
 ghost use Rattle.kept.specs.Kept.{after, answer, filledIn, kept, lent, outputs, proofOf, refused, sizes};
 use certificate::certificate;
-use edges::leaving_variable;
 use judgement::Proof;
 use judgement::judge;
 use multipliers::error_bounds;
@@ -14,6 +13,7 @@ use sheet::Outputs;
 use sheet::Sizes;
 use sheet::first_no;
 use sheet::number_of;
+use variable_kinds::leaving_variable;
 
 /// The number of the first question whose answer is no, or 0 and the kept numbers.
 #[repr(C)]

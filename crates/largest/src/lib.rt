@@ -6,10 +6,10 @@ ghost use Rattle.gaps.specs.Rows.{rangesIn};
 ghost use Rattle.gaps.specs.Steps.{atEdge, limited, skipped, term, unlimited, withTerm};
 ghost use Rattle.largest.specs.Walk.{at, largestOrInfinite, rangeAt, stepped};
 ghost use Rattle.largest.specs.Reads.{WalkFits};
+use directed::product_bounds;
+use directed::sum_up;
 use doubles::is_finite;
 use doubles::max;
-use doubles::product_bounds;
-use doubles::sum_up;
 use edges::edge;
 
 /// The pattern of +infinity.

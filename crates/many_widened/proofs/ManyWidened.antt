@@ -11,9 +11,10 @@ use lib.Dec.{eqb, ltb}
 use lib.ListN.{length, getD, take}
 use lib.Seq.{take-all, length-take-le}
 use Rattle.exact.proofs.Naturals.{le-or-lt}
-use Rattle.questions.specs.Rows.{isSet}
-use Rattle.questions.specs.Places.{allBelow, widenedAmong}
-use Rattle.questions.specs.Questions.{itemFineAt, widenedFine}
+use Rattle.questions.specs.Flags.{isSet}
+use Rattle.questions.specs.Places.{allBelow}
+use Rattle.place_questions.specs.Places.{widenedAmong}
+use Rattle.place_questions.specs.Questions.{itemFineAt, widenedFine}
 use Rattle.questions.proofs.All.{and-left, and-right}
 
 abbrev one : Bool → ℕ

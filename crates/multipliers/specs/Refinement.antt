@@ -9,7 +9,7 @@ use lib.Ieee.Scale.{finite}
 use Rattle.doubles.specs.Compare.{absolute, larger}
 use Rattle.cdouble.specs.declared.CDouble.{CDouble}
 use Rattle.cdouble.specs.Compensated.{_⊗_, pair, plusZero, value}
-use Rattle.questions.specs.Rows.{isSet}
+use Rattle.questions.specs.Flags.{isSet}
 use Rattle.multipliers.specs.declared.refinement.Norm.{Norm}
 use Rattle.multipliers.specs.declared.refinement.Norm.the-variants.{Largest, NotFinite}
 

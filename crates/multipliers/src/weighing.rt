@@ -5,7 +5,7 @@ ghost use lib.ListN.{length, getD};
 ghost use Prim.Native.Nat.{_<_};
 ghost use lib.Ieee.{nan};
 ghost use Rattle.doubles.specs.Compare.{absolute};
-ghost use Rattle.questions.specs.Rows.{slackOf};
+ghost use Rattle.row_questions.specs.Rows.{slackOf};
 ghost use Rattle.multipliers.specs.Multipliers.{needsInfiniteSide, signed, spreads, weighed};
 ghost use Rattle.multipliers.specs.Refinement.{rhoAt};
 use cdouble::CDouble;

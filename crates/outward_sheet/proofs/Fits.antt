@@ -10,7 +10,7 @@ use lib.Ieee.{Float}
 use Rattle.cdouble.specs.Compensated.{plusZero}
 use Rattle.cdouble.proofs.Contracts.{when-true, when-false}
 use Rattle.questions.specs.Limits.{mostRows, mostStructurals}
-use Rattle.questions.specs.Rows.{isSet}
+use Rattle.questions.specs.Flags.{isSet}
 use Rattle.sheet.specs.Sheet.{Sheet, variables}
 use Rattle.sheet.specs.Answers.{Accepted, firstNo}
 use Rattle.sheet.proofs.Accepted.{all-yes, sizes-hold}

@@ -10,12 +10,12 @@ ghost use Rattle.gaps.specs.Steps.{outwardOf};
 ghost use Rattle.gaps.specs.ThirdDemand.{NoPoint};
 ghost use Rattle.outward_sheet.specs.Answer.{outwardAnswer};
 use crate::reckoning::outward_gap;
-use edges::leaving_variable;
 use multipliers::error_bounds;
 use sheet::Outputs;
 use sheet::Sizes;
 use sheet::first_no;
 use sheet::number_of;
+use variable_kinds::leaving_variable;
 
 /// The number of the first question whose answer is no, or 0 and the outward gap.
 pub struct Outward {

@@ -14,6 +14,7 @@ pub fn put_double_line(x: &mut [u8], from: usize, opening: &[u8], v: f64) -> usi
     requires { ⌜ from + length (now opening) ≤ 50000 ⌝ }
     ensures { λ r. ⌜ Stored (now (x .entry)) (now (x .exit)) from r (line (now (opening .entry)) (hexadecimal v)) ⌝ }
     ensures { λ r. ⌜ r ≤ from + length (now (opening .entry)) + 22 ⌝ }
+    ensures { λ r. ⌜ r ≡ from + length (line (now (opening .entry)) (hexadecimal v)) ⌝ }
 {
     let value = put_text(x, from, opening);
     let end = put_double(x, value, v);
@@ -25,6 +26,7 @@ pub fn put_count_line(x: &mut [u8], from: usize, opening: &[u8], n: u64) -> usiz
     requires { ⌜ from + length (now opening) ≤ 50000 ⌝ }
     ensures { λ r. ⌜ Stored (now (x .entry)) (now (x .exit)) from r (line (now (opening .entry)) (decimal n)) ⌝ }
     ensures { λ r. ⌜ r ≤ from + length (now (opening .entry)) + 22 ⌝ }
+    ensures { λ r. ⌜ r ≡ from + length (line (now (opening .entry)) (decimal n)) ⌝ }
 {
     let value = put_text(x, from, opening);
     let end = put_count(x, value, n);
@@ -48,6 +50,7 @@ pub fn put_flag_line(x: &mut [u8], from: usize, opening: &[u8], flag: bool) -> u
     requires { ⌜ from + length (now opening) ≤ 50000 ⌝ }
     ensures { λ r. ⌜ Stored (now (x .entry)) (now (x .exit)) from r (line (now (opening .entry)) (yesOrNo flag)) ⌝ }
     ensures { λ r. ⌜ r ≤ from + length (now (opening .entry)) + 22 ⌝ }
+    ensures { λ r. ⌜ r ≡ from + length (line (now (opening .entry)) (yesOrNo flag)) ⌝ }
 {
     let value = put_text(x, from, opening);
     let end = put_flag(x, value, flag);

@@ -1,4 +1,2 @@
 pub mod All
-pub mod Tallies
-pub mod Marks
 pub mod Tests

@@ -1,5 +1,4 @@
 pub mod Limits
-pub mod Rows
+pub mod Flags
 pub mod Places
 pub mod Questions
-pub mod Tallies

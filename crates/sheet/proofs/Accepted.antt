@@ -11,9 +11,11 @@ use lib.ListN.{length, getD}
 use Rattle.questions.specs.Limits.{mostRows, mostStructurals, mostEntries}
 use Rattle.sheet.specs.Sheet.{Sheet, variables}
 use Rattle.questions.specs.Places.{allBelow}
-use Rattle.questions.specs.Rows.{RowsLie}
+use Rattle.row_questions.specs.Rows.{RowsLie}
 use Rattle.sheet.specs.Lengths.{rowsFit, variablesFit, outputsFit, lengthsFit, lengthsFine}
-use Rattle.questions.specs.Questions.{sizesFine, risesAt, startsFine, columnsFine, entriesFine, boundsFine, tolerancesFine, basisFine, allFinite, widenedFine, leavingRowFine}
+use Rattle.questions.specs.Questions.{sizesFine, boundsFine, tolerancesFine, allFinite, leavingRowFine}
+use Rattle.row_questions.specs.Questions.{risesAt, startsFine, columnsFine, entriesFine}
+use Rattle.place_questions.specs.Questions.{basisFine, widenedFine}
 use Rattle.sheet.specs.Answers.{ask, firstNo, Accepted}
 use Rattle.questions.proofs.All.{Each, each, all-at}
 

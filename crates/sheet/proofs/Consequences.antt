@@ -14,8 +14,11 @@ use Rattle.exact.proofs.Compare.{le-no-nan}
 use Rattle.exact.specs.Value.{sign}
 use Rattle.exact.proofs.Naturals.{le-or-lt}
 use Rattle.sheet.specs.Sheet.{Sheet, variables}
-use Rattle.questions.specs.Places.{allBelow, holdsPlace, holders}
-use Rattle.questions.specs.Questions.{finiteAt, allFinite, slackEntryFineAt, entriesFine, rangeFine, rangeFineAt, boundsFine, plain, plainAt, allPlain, productFiniteAt, tolerancesFine, placeFineAt, heldOnceAt, basisFine, leavingRowFine}
+use Rattle.questions.specs.Places.{allBelow}
+use Rattle.place_questions.specs.Places.{holdsPlace, holders}
+use Rattle.questions.specs.Questions.{finiteAt, allFinite, rangeFine, rangeFineAt, boundsFine, plain, plainAt, allPlain, productFiniteAt, tolerancesFine, leavingRowFine}
+use Rattle.row_questions.specs.Questions.{slackEntryFineAt, entriesFine}
+use Rattle.place_questions.specs.Questions.{placeFineAt, heldOnceAt, basisFine}
 use Rattle.questions.proofs.All.{Each, each, and-left, and-right, all-at}
 use Rattle.questions.proofs.Tests.{passes}
 use Rattle.sheet.proofs.Accepted.{RowsHold, VariablesHold, LengthsHold, lengths-hold, AllYes}

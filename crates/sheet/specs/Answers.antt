@@ -6,7 +6,9 @@ use Rattle.sheet.specs.declared.answers.Refusal.{Refusal}
 use Rattle.sheet.specs.declared.answers.Refusal.the-variants.{None, Sizes, Lengths, RowStarts, Columns, Entries, Bounds, Tolerances, Basis, Values, Widened, LeavingRow}
 use Rattle.sheet.specs.Sheet.{Sheet, variables}
 use Rattle.sheet.specs.Lengths.{lengthsFine}
-use Rattle.questions.specs.Questions.{sizesFine, startsFine, columnsFine, allFinite, entriesFine, boundsFine, tolerancesFine, basisFine, widenedFine, leavingRowFine}
+use Rattle.questions.specs.Questions.{sizesFine, allFinite, boundsFine, tolerancesFine, leavingRowFine}
+use Rattle.row_questions.specs.Questions.{startsFine, columnsFine, entriesFine}
+use Rattle.place_questions.specs.Questions.{basisFine, widenedFine}
 
 -- 01's number of each answer, 0 where no question refuses
 abbrev pub numberOf : Refusal → ℕ

@@ -6,18 +6,18 @@ ghost use Rattle.questions.specs.Limits.{mostRows, mostStructurals};
 ghost use Rattle.sheet.specs.Lengths.{lengthsFit, outputsFit, rowsFit, variablesFit};
 ghost use Rattle.questions.specs.Questions.{sizesFine};
 ghost use Rattle.sheet.specs.Answers.{firstNo, numberOf};
+use place_questions::basis_fine;
+use place_questions::widened_fine;
 use questions::MOST_ENTRIES;
 use questions::MOST_ROWS;
 use questions::MOST_STRUCTURALS;
 use questions::all_finite;
-use questions::basis_fine;
 use questions::bounds_fine;
-use questions::columns_fine;
-use questions::entries_fine;
 use questions::leaving_row_fine;
-use questions::starts_fine;
 use questions::tolerances_fine;
-use questions::widened_fine;
+use row_questions::columns_fine;
+use row_questions::entries_fine;
+use row_questions::starts_fine;
 
 /// How many rows, structural variables and entries there are.
 pub struct Sizes {

@@ -2,4 +2,3 @@ pub mod Counts
 pub mod Gathered
 pub mod Lengths
 pub mod Slices
-pub mod Whole

@@ -2,24 +2,22 @@
 use mathlib.Core.Path.{_≡_, refl, sym, ap, _∙_, subst}
 use mathlib.Core.Bool.{true}
 use mathlib.Core.List.{List, _∷_, map}
-use Prim.Native.Nat.{ℕ, _+_, _≤_, min}
-use native.Mathlib.Nat.{min-le-left, min-le-right}
+use Prim.Native.Nat.{ℕ, _+_, _≤_}
 use borrow.Author.Tests.{leb-true, eqb-true}
 use lib.Dec.{leb, eqb}
 use lib.ListN.{length, getD, take}
 use Rattle.questions.proofs.All.{and-left, and-right}
 use Rattle.repeats.specs.Filled.{column, filledFrom}
-use Rattle.repeats.proofs.Fronts.{front-of, whole-front, behind-first}
+use Rattle.repeats.proofs.Fronts.{whole-front, behind-first}
 use Rattle.text_items.specs.Items.{mostBytes}
 use Rattle.text_lines.specs.declared.variable_lines.VariableLine.{VariableLine}
 use Rattle.text_lines.specs.declared.row_items.Pair.{Pair}
-use Rattle.text_lines.specs.declared.sided_lines.WidenedLine.{WidenedLine}
 use Rattle.text_lines.specs.declared.multiplier_lines.RhoLine.{RhoLine}
 use Rattle.text_lists.specs.declared.row_lists.RowLine.{RowLine}
 use Rattle.sheet_text.specs.declared.Read.{Read}
-use Rattle.sheet_text.specs.Parts.{structuralLinesIn, variableLinesIn, rowLinesIn, pairsIn, widenedLinesIn, rhoLinesIn}
+use Rattle.sheet_text.specs.Parts.{structuralLinesIn, variableLinesIn, rowLinesIn, pairsIn, rhoLinesIn}
 use Rattle.sheet_text.specs.Form.{formMet, readIn, followsForm}
-use Rattle.sheet_text.proofs.Lengths.{structurals-long, variables-long, rows-long, pairs-long, widened-long, rhos-long}
+use Rattle.sheet_text.proofs.Lengths.{structurals-long, variables-long, rows-long, pairs-long, rhos-long}
 
 -- cut to the length n of the list
 cut : {R A : Type 0} (f : R → A) (things : List R) (before : List A) (n : ℕ) → length things ≡ n → n ≤ length before → take n (column f things before) ≡ map f things
@@ -58,19 +56,6 @@ module _ (text : List ℕ) where
   pub rhos-cut : {A : Type 0} (f : RhoLine → A) (before : List A) → readIn text .rows ≤ length before
       → take (readIn text .rows) (column f (rhoLinesIn text) before) ≡ map f (rhoLinesIn text)
   rhos-cut f before h = cut f (rhoLinesIn text) before (readIn text .rows) (rhos-long text) h
-
-  -- the widened items, as many as there are or as there is room for
-  pub widened-cut : {A : Type 0} (f : WidenedLine → A) (before : List A)
-      → take (min (readIn text .widened) (length before)) (column f (widenedLinesIn text) before)
-      ≡ map f (take (min (readIn text .widened) (length before)) (widenedLinesIn text))
-  widened-cut f before =
-      front-of f (widenedLinesIn text) before (min (readIn text .widened) (length before)) (min-le-right _ _)
-      (subst (λ (k : ℕ). min (readIn text .widened) (length before) ≤ k) (sym (widened-long text)) (min-le-left _ _))
-
-  -- all of them, where there is room for all
-  pub widened-whole : {A : Type 0} (f : WidenedLine → A) (before : List A) → readIn text .widened ≤ length before
-      → take (readIn text .widened) (column f (widenedLinesIn text) before) ≡ map f (widenedLinesIn text)
-  widened-whole f before h = cut f (widenedLinesIn text) before (readIn text .widened) (widened-long text) h
 
   -- what `follows_form` answers of the text's length and the position that was read is the first question's answer
   pub form-is : formMet (length text) (readIn text .next) ≡ followsForm text

@@ -20,7 +20,7 @@ use Rattle.exact.proofs.Values.{exact-abs, exact-neg, finite-neg, neg-neg}
 use Rattle.exact.proofs.Compare.{lt-to, le-exact, le-top, le-bottom}
 use Rattle.exact.proofs.Operations.{add-nearest, sub-nearest}
 use Rattle.exact.proofs.Between.{nearest-neg, units-above, units-between}
-use Rattle.doubles.specs.Rank.{largest}
+use Rattle.rank_arithmetic.specs.Rank.{largest}
 use Rattle.doubles.specs.Compare.{absolute}
 use Rattle.doubles.specs.Neighbours.{nextUp, nextDown}
 use Rattle.doubles.proofs.Patterns.{exact-double, double-fits, finite-no-nan}

@@ -44,7 +44,10 @@ module _ (s : Sheet) (before : Lent) {n : ℕ} (number : n ≡ firstNo s) where
   pub verdict-refused : {r : Verdict} → (n ≡ 0 → ⊥) → r ≡ refusedWith n → (r ≡ verdict s) × ((before ≡ after s before) × Declined s r)
   unfolding verdict
   verdict-refused some e =
-      let differs = ne-eqb (firstNo s) 0 (λ none. some (number ∙ none)) in
-      ( when-false (fullVerdict s) (e ∙ ap refusedWith number) differs
-      , ( answer-refused s before number {r = refused n} some refl .1
-        , λ t. absurd (subst (λ (v : Verdict). T (v .declined)) e t)))
+      let differs = ne-eqb (firstNo s) 0 (λ none. some (number ∙ none)) in (
+        when-false (fullVerdict s) (e ∙ ap refusedWith number) differs,
+        (
+          answer-refused s before number {r = refused n} some refl .1,
+          λ t. absurd (subst (λ (v : Verdict). T (v .declined)) e t),
+        ),
+      )

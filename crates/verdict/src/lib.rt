@@ -3,7 +3,7 @@
 ghost use mathlib.Core.Path.{_≡_};
 ghost use lib.Dec.{T};
 ghost use Rattle.sheet.specs.Sheet.{sheet};
-ghost use Rattle.certificate.specs.Certificate.{lists};
+ghost use Rattle.added_row.specs.Added.{lists};
 ghost use Rattle.kept.specs.Kept.{after, lent, outputs, sizes};
 ghost use Rattle.gaps.specs.Rows.{rangesOf, rowsOf};
 ghost use Rattle.gaps.specs.ThirdDemand.{NoPoint};

@@ -10,7 +10,8 @@ use Prim.Native.Nat.{ℕ, _+_, _≤_, _<_, _^_}
 use lib.Dec.{eqb}
 use lib.Ieee.{Float, lt}
 use Rattle.cdouble.specs.Compensated.{plusZero, value}
-use Rattle.certificate.specs.Certificate.{Certificate, Lists}
+use Rattle.certificate.specs.Certificate.{Certificate}
+use Rattle.added_row.specs.Added.{Lists}
 use Rattle.certificate.specs.Reads.{Lent}
 use Rattle.edges.specs.Model.{Model, boundOf}
 use Rattle.edges.specs.Edges.{edge}

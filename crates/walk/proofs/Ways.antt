@@ -12,7 +12,7 @@ use Rattle.doubles.specs.Compare.{absolute}
 use Rattle.cdouble.specs.declared.CDouble.{CDouble}
 use Rattle.cdouble.specs.Compensated.{_⊕_, _⊗_, absUp, addUp, distanceUp, mulUp, plusScaled, plusZero, value}
 use Rattle.cdouble.proofs.Contracts.{when-true, when-false}
-use Rattle.certificate.specs.Certificate.{Lists, pairAt}
+use Rattle.added_row.specs.Added.{Lists, pairAt}
 use Rattle.edges.specs.Model.{Model, boundOf}
 use Rattle.edges.specs.Edges.{edge}
 use Rattle.walk.specs.declared.steps.Coefficient.{Coefficient}

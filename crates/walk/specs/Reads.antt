@@ -4,8 +4,8 @@ use mathlib.Core.List.{List}
 use Prim.Native.Nat.{ℕ, _+_, _≤_, _<_, _^_}
 use lib.ListN.{length, getD}
 use lib.Ieee.{Float}
-use Rattle.certificate.specs.declared.combine.Sums.{Sums}
-use Rattle.certificate.specs.Certificate.{Lists}
+use Rattle.added_row.specs.declared.adding.Sums.{Sums}
+use Rattle.added_row.specs.Added.{Lists}
 use Rattle.certificate.specs.Reads.{Lent}
 use Rattle.edges.specs.Model.{Model}
 use Rattle.edges.specs.Reads.{Readable}

@@ -9,8 +9,9 @@ use lib.Ieee.Scale.{finite}
 use Rattle.doubles.specs.Compare.{absolute}
 use Rattle.cdouble.specs.declared.CDouble.{CDouble}
 use Rattle.cdouble.specs.Compensated.{_⊕_, _⊗_, absUp, addUp, compensatedError, distanceUp, mulUp, pair, plusScaled, plusZero, value}
-use Rattle.certificate.specs.declared.combine.Sums.{Sums}
-use Rattle.certificate.specs.Certificate.{Certificate, Lists, pairAt}
+use Rattle.added_row.specs.declared.adding.Sums.{Sums}
+use Rattle.certificate.specs.Certificate.{Certificate}
+use Rattle.added_row.specs.Added.{Lists, pairAt}
 use Rattle.edges.specs.Model.{Model, boundOf}
 use Rattle.edges.specs.Edges.{edge}
 use Rattle.walk.specs.declared.steps.Coefficient.{Coefficient}

@@ -19,8 +19,13 @@ module _ (text : List ℕ) {v : Verdict} {l : Lines} (verdict-is : v ≡ textVer
 
   pub answer-is : (before : List ℕ) {r : ℕ} {now : List ℕ} → r ≡ length (answerText (v .refusal) l) → now ≡ writtenIfFits (answerText (v .refusal) l) before → Declined (sheetIn text) v
       → (r ≡ length (textAnswer text)) × ((now ≡ writtenIfFits (textAnswer text) before) × ((r ≤ mostAnswer) × Declined (sheetIn text) (textVerdict text)))
-  answer-is before long stored rules =
-      ( long ∙ ap length text-is
-      , ( stored ∙ ap (λ (t : List ℕ). writtenIfFits t before) text-is
-        , ( subst (λ (k : ℕ). k ≤ mostAnswer) (sym long) (answer-short (v .refusal) l)
-          , λ t. rules (subst (λ (w : Verdict). T (w .declined)) (sym verdict-is) t))))
+  answer-is before long stored rules = (
+    long ∙ ap length text-is,
+    (
+      stored ∙ ap (λ (t : List ℕ). writtenIfFits t before) text-is,
+      (
+        subst (λ (k : ℕ). k ≤ mostAnswer) (sym long) (answer-short (v .refusal) l),
+        λ t. rules (subst (λ (w : Verdict). T (w .declined)) (sym verdict-is) t),
+      ),
+    ),
+  )

@@ -8,7 +8,8 @@ use lib.ListN.{length, take, length-take}
 use lib.Seq.{take-all}
 use borrow.Author.Tests.{eq-eqb, eqb-true}
 use Rattle.questions.proofs.All.{each}
-use Rattle.questions.specs.Questions.{sizesFine, widenedFine}
+use Rattle.questions.specs.Questions.{sizesFine}
+use Rattle.place_questions.specs.Questions.{widenedFine}
 use Rattle.sheet.specs.Sheet.{Sheet, variables}
 use Rattle.sheet.specs.Answers.{Accepted, ask, firstNo}
 use Rattle.sheet.specs.Lengths.{rowsFit, variablesFit, outputsFit, lengthsFit, lengthsFine}
@@ -82,13 +83,13 @@ module _ (s : Sheet) (k : ℕ) where
   unfolding lengthsFit
   sides-same long =
       let h =
-        each Rows
-        (Variables
-        ∷ eqb (length (s .integer)) (s .structurals)
-        ∷ eqb (length (s .widenedUps)) (length (s .widenedVariables))
-        ∷ outputsFit (variables s) (s .outputs)
-        ∷ [])
-        long in
+      each Rows
+      (Variables
+      ∷ eqb (length (s .integer)) (s .structurals)
+      ∷ eqb (length (s .widenedUps)) (length (s .widenedVariables))
+      ∷ outputsFit (variables s) (s .outputs)
+      ∷ [])
+      long in
       eqb-true (length (s .widenedUps)) (length (s .widenedVariables)) (h .1 .1 .1 .0)
 
   -- cut lists are as long as each other, and no other length changes
@@ -96,15 +97,15 @@ module _ (s : Sheet) (k : ℕ) where
   unfolding lengthsFit
   cut-lengths long =
       let h =
-        each Rows
-        (Variables
-        ∷ eqb (length (s .integer)) (s .structurals)
-        ∷ eqb (length (s .widenedUps)) (length (s .widenedVariables))
-        ∷ outputsFit (variables s) (s .outputs)
-        ∷ [])
-        long in
+      each Rows
+      (Variables
+      ∷ eqb (length (s .integer)) (s .structurals)
+      ∷ eqb (length (s .widenedUps)) (length (s .widenedVariables))
+      ∷ outputsFit (variables s) (s .outputs)
+      ∷ [])
+      long in
       let sides : length (take k (s .widenedUps)) ≡ length (take k (s .widenedVariables)) =
-        length-take k (s .widenedUps) ∙ ap (min k) (sides-same long) ∙ sym (length-take k (s .widenedVariables)) in
+      length-take k (s .widenedUps) ∙ ap (min k) (sides-same long) ∙ sym (length-take k (s .widenedVariables)) in
       rw (h .0, h .1 .0, h .1 .1 .0, eq-eqb (length (take k (s .widenedUps))) (length (take k (s .widenedVariables))) sides, h .1 .1 .1 .1 .0) refl
 
   pub cut-number : lengthsFine s ≡ true

@@ -7,7 +7,6 @@ use Prim.Native.Nat.{ℕ, _+_, _≤_, _<_, _^_}
 use borrow.Author.Tests.{not-true, not-false, ltb-true}
 use lib.Dec.{T, ltb}
 use lib.ListN.{length, take, length-take}
-
 use Rattle.cdouble.proofs.Contracts.{when-true, when-false}
 use Rattle.questions.specs.Limits.{mostEntries}
 use Rattle.questions.specs.Questions.{sizesFine}
@@ -52,15 +51,17 @@ module _ (long : Sheet) {fine : Bool} (asked : fine ≡ sizesFine (long .rows) (
 
     pub front-refused : {r : Verdict} → not fine ≡ true → r ≡ refusedWith 2 → (r ≡ frontVerdict widened long) × Declined Fronts r
     unfolding frontVerdict
-    front-refused failed e =
-        ( when-false (verdict Fronts) e (sym asked ∙ not-true fine failed)
-        , λ t. absurd (subst (λ (v : Verdict). T (v .declined)) e t))
+    front-refused failed e = (
+      when-false (verdict Fronts) e (sym asked ∙ not-true fine failed),
+      λ t. absurd (subst (λ (v : Verdict). T (v .declined)) e t),
+    )
 
     pub front-full : {r : Verdict} {items : ℕ} {o : Outputs} → not fine ≡ false → items ≡ fewest widened → o ≡ long .outputs
         → r ≡ verdict (fronts items (lending o)) → Declined (fronts items (lending o)) r
         → (r ≡ frontVerdict widened long) × Declined Fronts r
     unfolding frontVerdict
     front-full {r} {items} {o} passed cut lent e rules =
-        let same : fronts items (lending o) ≡ Fronts = ap (λ (p : Outputs). fronts items (lending p)) lent ∙ ap (λ (k : ℕ). fronts k long) cut in
-        ( when-true (refusedWith 2) (e ∙ ap verdict same) (sym asked ∙ not-false fine passed)
-        , subst (λ (s : Sheet). Declined s r) same rules)
+        let same : fronts items (lending o) ≡ Fronts = ap (λ (p : Outputs). fronts items (lending p)) lent ∙ ap (λ (k : ℕ). fronts k long) cut in (
+          when-true (refusedWith 2) (e ∙ ap verdict same) (sym asked ∙ not-false fine passed),
+          subst (λ (s : Sheet). Declined s r) same rules,
+        )

@@ -11,7 +11,8 @@ use lib.Seq.{length-sets, take-all}
 use lib.Ieee.{Float}
 use Rattle.cdouble.proofs.Contracts.{when-true, when-false}
 use Rattle.questions.specs.Limits.{mostRows, mostStructurals, mostEntries}
-use Rattle.questions.specs.Questions.{sizesFine, widenedFine}
+use Rattle.questions.specs.Questions.{sizesFine}
+use Rattle.place_questions.specs.Questions.{widenedFine}
 use Rattle.sheet.specs.Sheet.{Sheet, sheet, variables}
 use Rattle.sheet.specs.Answers.{Accepted, firstNo, ask}
 use Rattle.sheet.specs.Lengths.{lengthsFine, lengthsFit}
@@ -172,9 +173,10 @@ module _ (text : List ℕ) (room : Sheet) where
     within-limits : {v : Verdict} → v ≡ verdict (fronts (fewest (readIn text .widened)) long) → Declined (fronts (fewest (readIn text .widened)) long) v
         → (v ≡ verdict (sheetIn text)) × Declined (sheetIn text) v
     within-limits {v} e rules =
-        let cut : v ≡ verdict (cutWidened mostWidened (sheetIn text)) = e ∙ ap verdict fronts-are in
-        ( cut ∙ same-verdict (sheetIn text) (cutWidened mostWidened (sheetIn text)) same-number whole-list
-        , same-declined (sheetIn text) (cutWidened mostWidened (sheetIn text)) same-number whole-list cut (subst (λ (x : Sheet). Declined x v) fronts-are rules))
+        let cut : v ≡ verdict (cutWidened mostWidened (sheetIn text)) = e ∙ ap verdict fronts-are in (
+          cut ∙ same-verdict (sheetIn text) (cutWidened mostWidened (sheetIn text)) same-number whole-list,
+          same-declined (sheetIn text) (cutWidened mostWidened (sheetIn text)) same-number whole-list cut (subst (λ (x : Sheet). Declined x v) fronts-are rules),
+        )
 
   too-large : Fine ≡ false → verdict (sheetIn text) ≡ refusedWith 2
   unfolding sheetIn
@@ -191,42 +193,42 @@ module _ (text : List ℕ) (room : Sheet) where
 
   -- the lists that a call left
   module _ {r : Read} {x1 : List ℕ} {x2 : List ℕ} {x3 : List Float} {x4 : List Float} {x5 : List Float} {x6 : List ℕ} {x7 : List Float} {x8 : List Float} {x9 : List Float} {x10 : List Float} {x11 : List ℕ} {x12 : List ℕ} {x13 : List Float} {x14 : List ℕ} {x15 : List ℕ} {x16 : List Float} {x17 : List Float} {x18 : List Float}
-    (reads : r ≡ readIn text)
-    (starts-is : x1 ≡ filledFrom 1 (λ (row : RowLine). row .end) (rowLinesIn text) (room .starts))
-    (columns-is : x2 ≡ column (λ (item : Pair). item .column) (pairsIn text) (room .columns))
-    (entries-is : x3 ≡ column (λ (item : Pair). item .entry) (pairsIn text) (room .entries))
-    (right-sides-is : x4 ≡ column (λ (row : RowLine). row .right) (rowLinesIn text) (room .rightSides))
-    (scales-is : x5 ≡ column (λ (row : RowLine). row .scale) (rowLinesIn text) (room .scales))
-    (integer-is : x6 ≡ column (λ (line : VariableLine). line .integer) (structuralLinesIn text) (room .integer))
-    (mins-is : x7 ≡ column (λ (line : VariableLine). line .min) (variableLinesIn text) (room .mins))
-    (maxs-is : x8 ≡ column (λ (line : VariableLine). line .max) (variableLinesIn text) (room .maxs))
-    (low-tolerances-is : x9 ≡ column (λ (line : VariableLine). line .low) (variableLinesIn text) (room .lowTolerances))
-    (high-tolerances-is : x10 ≡ column (λ (line : VariableLine). line .high) (variableLinesIn text) (room .highTolerances))
-    (basic-is : x11 ≡ column (λ (line : VariableLine). line .basic) (variableLinesIn text) (room .basic))
-    (places-is : x12 ≡ column (λ (line : VariableLine). line .place) (variableLinesIn text) (room .places))
-    (values-is : x13 ≡ column (λ (line : VariableLine). line .value) (variableLinesIn text) (room .values))
-    (widened-vars-is : x14 ≡ column (λ (line : WidenedLine). line .variable) (widenedLinesIn text) (room .widenedVariables))
-    (widened-ups-is : x15 ≡ column (λ (line : WidenedLine). line .up) (widenedLinesIn text) (room .widenedUps))
-    (rho-hi-is : x16 ≡ column (λ (line : RhoLine). line .hi) (rhoLinesIn text) (room .rhoHi))
-    (rho-lo-is : x17 ≡ column (λ (line : RhoLine). line .lo) (rhoLinesIn text) (room .rhoLo))
-    (second-is : x18 ≡ column (λ (line : RhoLine). line .second) (rhoLinesIn text) (room .second))
+      (reads : r ≡ readIn text)
+      (starts-is : x1 ≡ filledFrom 1 (λ (row : RowLine). row .end) (rowLinesIn text) (room .starts))
+      (columns-is : x2 ≡ column (λ (item : Pair). item .column) (pairsIn text) (room .columns))
+      (entries-is : x3 ≡ column (λ (item : Pair). item .entry) (pairsIn text) (room .entries))
+      (right-sides-is : x4 ≡ column (λ (row : RowLine). row .right) (rowLinesIn text) (room .rightSides))
+      (scales-is : x5 ≡ column (λ (row : RowLine). row .scale) (rowLinesIn text) (room .scales))
+      (integer-is : x6 ≡ column (λ (line : VariableLine). line .integer) (structuralLinesIn text) (room .integer))
+      (mins-is : x7 ≡ column (λ (line : VariableLine). line .min) (variableLinesIn text) (room .mins))
+      (maxs-is : x8 ≡ column (λ (line : VariableLine). line .max) (variableLinesIn text) (room .maxs))
+      (low-tolerances-is : x9 ≡ column (λ (line : VariableLine). line .low) (variableLinesIn text) (room .lowTolerances))
+      (high-tolerances-is : x10 ≡ column (λ (line : VariableLine). line .high) (variableLinesIn text) (room .highTolerances))
+      (basic-is : x11 ≡ column (λ (line : VariableLine). line .basic) (variableLinesIn text) (room .basic))
+      (places-is : x12 ≡ column (λ (line : VariableLine). line .place) (variableLinesIn text) (room .places))
+      (values-is : x13 ≡ column (λ (line : VariableLine). line .value) (variableLinesIn text) (room .values))
+      (widened-vars-is : x14 ≡ column (λ (line : WidenedLine). line .variable) (widenedLinesIn text) (room .widenedVariables))
+      (widened-ups-is : x15 ≡ column (λ (line : WidenedLine). line .up) (widenedLinesIn text) (room .widenedUps))
+      (rho-hi-is : x16 ≡ column (λ (line : RhoLine). line .hi) (rhoLinesIn text) (room .rhoHi))
+      (rho-lo-is : x17 ≡ column (λ (line : RhoLine). line .lo) (rhoLinesIn text) (room .rhoLo))
+      (second-is : x18 ≡ column (λ (line : RhoLine). line .second) (rhoLinesIn text) (room .second))
     where
-    abbrev Left : Sheet
-    Left = readWith r x1 x2 x3 x4 x5 x6 x7 x8 x9 x10 x11 x12 x13 x14 x15 x16 x17 x18
+      abbrev Left : Sheet
+      Left = readWith r x1 x2 x3 x4 x5 x6 x7 x8 x9 x10 x11 x12 x13 x14 x15 x16 x17 x18
 
-    long-is : Left ≡ long
-    long-is = rw (reads, starts-is, columns-is, entries-is, right-sides-is, scales-is, integer-is, mins-is, maxs-is, low-tolerances-is, high-tolerances-is, basic-is, places-is, values-is, widened-vars-is, widened-ups-is, rho-hi-is, rho-lo-is, second-is) refl
+      long-is : Left ≡ long
+      long-is = rw (reads, starts-is, columns-is, entries-is, right-sides-is, scales-is, integer-is, mins-is, maxs-is, low-tolerances-is, high-tolerances-is, basic-is, places-is, values-is, widened-vars-is, widened-ups-is, rho-hi-is, rho-lo-is, second-is) refl
 
-    pub lists-have-room : HasRoom room → HasRoom Left
-    lists-have-room h = subst HasRoom (sym long-is) (has-room h)
+      pub lists-have-room : HasRoom room → HasRoom Left
+      lists-have-room h = subst HasRoom (sym long-is) (has-room h)
 
-    pub lists-verdict : HasRoom room → getD (room .starts) 0 0 ≡ 0 → {v : Verdict} → v ≡ frontVerdict (r .widened) Left
-        → Declined (fronts (fewest (r .widened)) Left) v → (v ≡ verdict (sheetIn text)) × Declined (sheetIn text) v
-    lists-verdict h zero-first {v} e rules =
-        verdict-is h zero-first
-        (e ∙ ap (λ (q : Read). frontVerdict (q .widened) Left) reads ∙ ap (frontVerdict (readIn text .widened)) long-is)
-        (subst (λ (x : Sheet). Declined (fronts (fewest (readIn text .widened)) x) v) long-is
-        (subst (λ (q : Read). Declined (fronts (fewest (q .widened)) Left) v) reads rules))
+      pub lists-verdict : HasRoom room → getD (room .starts) 0 0 ≡ 0 → {v : Verdict} → v ≡ frontVerdict (r .widened) Left
+          → Declined (fronts (fewest (r .widened)) Left) v → (v ≡ verdict (sheetIn text)) × Declined (sheetIn text) v
+      lists-verdict h zero-first {v} e rules =
+          verdict-is h zero-first
+          (e ∙ ap (λ (q : Read). frontVerdict (q .widened) Left) reads ∙ ap (frontVerdict (readIn text .widened)) long-is)
+          (subst (λ (x : Sheet). Declined (fronts (fewest (readIn text .widened)) x) v) long-is
+          (subst (λ (q : Read). Declined (fronts (fewest (q .widened)) Left) v) reads rules))
 
 -- ---- the first question, and the answer
 module _ (text : List ℕ) {r : Read} (reads : r ≡ readIn text) {form : Bool} (asked : form ≡ formMet (length text) (r .next)) where
@@ -235,9 +237,10 @@ module _ (text : List ℕ) {r : Read} (reads : r ≡ readIn text) {form : Bool} 
 
   pub text-refused : {v : Verdict} → not form ≡ true → v ≡ refusedWith 1 → (v ≡ textVerdict text) × Declined (sheetIn text) v
   unfolding textVerdict
-  text-refused failed e =
-      ( when-false (verdict (sheetIn text)) e (sym form-asked ∙ not-true form failed)
-      , λ t. absurd (subst (λ (x : Verdict). T (x .declined)) e t))
+  text-refused failed e = (
+    when-false (verdict (sheetIn text)) e (sym form-asked ∙ not-true form failed),
+    λ t. absurd (subst (λ (x : Verdict). T (x .declined)) e t),
+  )
 
   pub text-full : {v : Verdict} → not form ≡ false → (v ≡ verdict (sheetIn text)) × Declined (sheetIn text) v → (v ≡ textVerdict text) × Declined (sheetIn text) v
   unfolding textVerdict

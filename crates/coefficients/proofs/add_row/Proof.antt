@@ -1,5 +1,5 @@
 -- `add_row` meets its contract. Assumes nothing.
-use Rattle.questions.specs.Rows.{part}
+use Rattle.row_questions.specs.Rows.{part}
 use Rattle.coefficients.proofs.Rows.{entries-fit, row-added}
 use borrow.Author.Needs.{needs}
 use Rattle.coefficients.proofs.add_row.Statement.{statement}

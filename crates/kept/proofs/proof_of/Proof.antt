@@ -1,7 +1,7 @@
 -- `proof_of` meets its contract. Assumes nothing.
 use mathlib.Core.Path.{_∙_}
 use Rattle.sheet.specs.Sheet.{Sheet, sheet}
-use Rattle.certificate.specs.Certificate.{lists}
+use Rattle.added_row.specs.Added.{lists}
 use Rattle.kept.specs.Kept.{outputs, sizes, lent, Lent}
 use Rattle.kept.proofs.Whole.{accepts, answer-full, answer-refused}
 use borrow.Author.Needs.{needs}

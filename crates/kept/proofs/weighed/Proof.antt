@@ -6,7 +6,7 @@ use lib.Ieee.{Float}
 use Rattle.sheet.specs.Sheet.{Sheet, sheet}
 use Rattle.sheet.proofs.Accepted.{all-yes}
 use Rattle.sheet.proofs.Consequences.{by-row, by-variable}
-use Rattle.certificate.specs.Certificate.{Lists, lists}
+use Rattle.added_row.specs.Added.{Lists, lists}
 use Rattle.kept.specs.Kept.{outputs, sizes}
 use Rattle.kept.proofs.Fits.{few-variables}
 use Rattle.kept.proofs.Whole.{certificate-asks, judge-asks, filled-in, kept-is}

@@ -28,7 +28,7 @@ same-length : tie.Need-same-length
 same-length c = search needs
 
 returns : tie.Need-returns
-returns c = (end-is (c .before .before .before .before .before .before .before .before .put-whole .ensures), written (c .before .before .before .before .before .before .before .before .put-whole .ensures) (omega (arith, end-is (c .before .before .before .before .before .before .before .before .put-whole .ensures), answer-short (c .before .before .before .before .before .before .before .before .before .before .before .args .refusal) (c .before .before .before .before .before .before .before .before .before .before .before .args .lines))) (c .before .before .put-text .ensures) (c .before .before .before .before .before .before .if1 .taken))
+returns c = (end-is (c .before .before .before .before .before .before .before .before .put-whole .ensures), written (c .before .before .before .before .before .before .before .before .put-whole .ensures) (omega (arith, end-is (c .before .before .before .before .before .before .before .before .put-whole .ensures), answer-short (c .before .before .before .before .before .before .before .before .before .before .before .args .refusal) (c .before .before .before .before .before .before .before .before .before .before .before .args .lines))) (c .before .before .put-text .ensures .0) (c .before .before .before .before .before .before .if1 .taken))
 
 returns-2 : tie.Need-returns-2
 returns-2 c = (end-is (c .before .before .put-whole .ensures), left-alone (c .before .before .put-whole .ensures) (now (c .before .before .before .before .before .args .out)) (c .if1 .left))

@@ -18,7 +18,7 @@ same-length : tie.Need-same-length
 same-length c = search needs
 
 returns : tie.Need-returns
-returns c = record { place = omega (arith, length-decimal (c .before .before .before .before .before .before .args .n), c .before .before .before .before .digit-count .ensures .0); list = cc }
+returns c = (record { place = omega (arith, length-decimal (c .before .before .before .before .before .before .args .n), c .before .before .before .before .digit-count .ensures .0); list = cc }, omega (arith, c .before .before .before .before .digit-count .ensures .0))
 
 pub put-count-spec : {M : Type 1} → statement M
 put-count-spec =

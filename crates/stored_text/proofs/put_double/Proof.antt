@@ -1,5 +1,6 @@
 -- `put_double` meets its contract. Assumes nothing.
 use native.Mathlib.Omega.{arith}
+use mathlib.Core.Path.{refl}
 use Rattle.stored_text.proofs.Lengths.{length-hexadecimal}
 use borrow.Author.Needs.{needs}
 use Rattle.stored_text.proofs.put_double.Statement.{statement}
@@ -18,7 +19,7 @@ same-length : tie.Need-same-length
 same-length c = search needs
 
 returns : tie.Need-returns
-returns c = record { place = omega (arith, length-hexadecimal (c .before .before .before .before .before .before .args .v)); list = cc }
+returns c = (record { place = omega (arith, length-hexadecimal (c .before .before .before .before .before .before .args .v)); list = cc }, refl)
 
 pub put-double-spec : {M : Type 1} → statement M
 put-double-spec =

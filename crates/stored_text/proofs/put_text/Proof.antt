@@ -40,7 +40,7 @@ same-length : tie.Need-same-length Inv-loop μ-loop
 same-length c = c .before .loop .inv .long
 
 returns : tie.Need-returns Inv-loop μ-loop
-returns c = copying-done (c .before .loop .inv) (c .loop-test .left)
+returns c = let s = copying-done (c .before .loop .inv) (c .loop-test .left) in (s, s .place)
 
 pub put-text-spec : {M : Type 1} → statement M
 put-text-spec =

@@ -2,7 +2,7 @@
 use mathlib.Core.Path.{_∙_}
 use Rattle.doubles.proofs.Tests.{fit}
 use Rattle.sheet.specs.Sheet.{Doubles, Sheet, sheet}
-use Rattle.certificate.specs.Certificate.{lists}
+use Rattle.added_row.specs.Added.{lists}
 use Rattle.kept.specs.Kept.{Lent, lent, outputs, sizes}
 use Rattle.kept.proofs.Whole.{accepts}
 use Rattle.verdict.proofs.Whole.{verdict-full, verdict-refused}

@@ -1,7 +1,7 @@
 -- `add_row` meets its contract. Assumes nothing.
 use native.Mathlib.Omega.{arith}
 use mathlib.Core.Path.{refl}
-use Rattle.questions.specs.Rows.{part}
+use Rattle.row_questions.specs.Rows.{part}
 use Rattle.certificate.proofs.Rows.{row-fits, errors-fit, sums-fit, row-added}
 use borrow.Author.Needs.{needs}
 use Rattle.certificate.proofs.combine.add_row.Statement.{statement}

@@ -4,7 +4,8 @@ use borrow.Author.Needs.{needs}
 use Prim.Native.Nat.{_-_}
 use lib.Ieee.{ofBits}
 use Rattle.certificate.specs.System.{system}
-use Rattle.certificate.specs.Certificate.{afterRows, certificate, lists, noSums}
+use Rattle.certificate.specs.Certificate.{afterRows, certificate}
+use Rattle.added_row.specs.Added.{lists, noSums}
 use Rattle.exact.proofs.Turns.{Turn, done}
 use Rattle.certificate.proofs.Rows.{first-row, rows-same, errors-same, row-goes-on, next-row}
 use Rattle.certificate.proofs.combine.add_rows.Statement.{statement}

@@ -1,7 +1,7 @@
 -- `abs` meets its contract: the double of the same rank that is not negative. Assumes nothing.
 use mathlib.Core.Bool.{false}
 use mathlib.Core.Path.{ap, _∙_}
-use Rattle.doubles.specs.Rank.{double}
+use Rattle.rank_arithmetic.specs.Rank.{double}
 use Rattle.doubles.proofs.Tests.{is-nan, not-nan, fit, rank-bits, rank-most, absolute-rank, absolute-nan}
 use Rattle.doubles.proofs.bits.abs.Statement.{statement}
 use Rattle.doubles.proofs.bits.abs.Tie as tie

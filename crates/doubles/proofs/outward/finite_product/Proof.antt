@@ -5,7 +5,7 @@ use Prim.Native.Nat.{_*_, _%_, _^_}
 use native.Mathlib.Omega.{arith}
 use lib.Dec.{leb}
 use lib.Ieee.{binary64, toBits, unlike}
-use Rattle.doubles.specs.Rank.{atRank}
+use Rattle.rank_arithmetic.specs.Rank.{atRank}
 use Rattle.doubles.proofs.Patterns.{finite-no-nan}
 use Rattle.doubles.proofs.Tests.{fit}
 use Rattle.doubles.proofs.Bounding.{Parts, parts, parts-product, product-zero-l, product-zero-r, bounds, between-zero}

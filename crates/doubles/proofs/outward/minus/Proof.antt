@@ -5,7 +5,7 @@ use mathlib.Core.Path.{sym, ap, _∙_}
 use Prim.Native.Nat.{ℕ}
 use native.Mathlib.Omega.{arith}
 use Rattle.doubles.specs.Directed.{withZero}
-use Rattle.doubles.specs.Rank.{double}
+use Rattle.rank_arithmetic.specs.Rank.{double}
 use Rattle.doubles.proofs.Zero.{zero-plus, withZero-rank}
 use Rattle.doubles.proofs.outward.minus.Statement.{statement}
 use Rattle.doubles.proofs.outward.minus.Tie as tie

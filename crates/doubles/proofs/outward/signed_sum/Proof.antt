@@ -4,7 +4,7 @@ use mathlib.Core.Bool.{false}
 use Prim.Native.Nat.{_+_, _-_}
 use native.Mathlib.Nat.{le-of-lt}
 use native.Mathlib.Omega.{arith}
-use Rattle.doubles.specs.Rank.{atRank}
+use Rattle.rank_arithmetic.specs.Rank.{atRank}
 use Rattle.doubles.proofs.Bounding.{bounds, between-zero, between-self, sum-zero, sum-like, sum-unlike, sum-none}
 use Rattle.doubles.proofs.outward.signed_sum.Statement.{statement}
 use Rattle.doubles.proofs.outward.signed_sum.Tie as tie

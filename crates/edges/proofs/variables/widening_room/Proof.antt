@@ -3,7 +3,7 @@ use borrow.Author.Needs.{needs}
 use native.Mathlib.Omega.{arith}
 use lib.Ieee.{ofBits}
 use Rattle.edges.specs.Model.{Model, model}
-use Rattle.questions.specs.Rows.{part}
+use Rattle.row_questions.specs.Rows.{part}
 use Rattle.edges.proofs.Tests.{room-widened, room-structural, room-slack}
 use Rattle.edges.proofs.variables.widening_room.Statement.{statement}
 use Rattle.edges.proofs.variables.widening_room.Tie as tie

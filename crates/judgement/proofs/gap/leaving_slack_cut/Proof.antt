@@ -1,7 +1,7 @@
 -- `leaving_slack_cut` meets its contract. Assumes nothing.
 use native.Mathlib.Omega.{arith}
 use Rattle.edges.specs.Model.{Model, model}
-use Rattle.questions.specs.Rows.{part}
+use Rattle.row_questions.specs.Rows.{part}
 use Rattle.edges.specs.Reads.{RowReadable}
 use Prim.Native.Nat.{_-_}
 use Rattle.judgement.proofs.Ways.{leaving-slack-cut-is}

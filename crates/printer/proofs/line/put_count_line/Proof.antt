@@ -16,13 +16,13 @@ slice-aggregate-put-text : tie.Need-slice-aggregate-put-text
 slice-aggregate-put-text c = search needs
 
 put-text-requires-2 : tie.Need-put-text-requires-2
-put-text-requires-2 c κs = omega (arith, c .before .before .before .before .before .before .before .before .put-text .ensures .place, c .before .before .before .before .put-count .ensures .place, decimal-short (c .before .before .before .before .before .before .before .before .before .before .before .before .args .n))
+put-text-requires-2 c κs = omega (arith, c .before .before .before .before .before .before .before .before .put-text .ensures .0 .place, c .before .before .before .before .put-count .ensures .0 .place, decimal-short (c .before .before .before .before .before .before .before .before .before .before .before .before .args .n))
 
 same-length : tie.Need-same-length
 same-length c = search needs
 
 returns : tie.Need-returns
-returns c = line-stored (c .before .before .before .before .before .before .before .before .before .before .before .put-text .ensures) (c .before .before .before .before .before .before .before .put-count .ensures) (c .before .before .put-text2 .ensures) (decimal-short (c .before .before .before .before .before .before .before .before .before .before .before .before .before .before .before .args .n))
+returns c = let h = line-stored (c .before .before .before .before .before .before .before .before .before .before .before .put-text .ensures .0) (c .before .before .before .before .before .before .before .put-count .ensures .0) (c .before .before .put-text2 .ensures .0) (decimal-short (c .before .before .before .before .before .before .before .before .before .before .before .before .before .before .before .args .n)) in (h .0, (h .1, h .0 .place))
 
 pub put-count-line-spec : {M : Type 1} → statement M
 put-count-line-spec =

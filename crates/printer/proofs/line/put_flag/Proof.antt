@@ -19,13 +19,13 @@ same-length : tie.Need-same-length
 same-length c = search needs
 
 returns : tie.Need-returns
-returns c = rw (c .before .before .before .before .before .if1 .taken) (c .before .before .put-text .ensures)
+returns c = rw (c .before .before .before .before .before .if1 .taken) (c .before .before .put-text .ensures .0)
 
 same-length-2 : tie.Need-same-length-2
 same-length-2 c = search needs
 
 returns-2 : tie.Need-returns-2
-returns-2 c = rw (c .before .before .before .before .before .if1 .left) (c .before .before .put-text2 .ensures)
+returns-2 c = rw (c .before .before .before .before .before .if1 .left) (c .before .before .put-text2 .ensures .0)
 
 pub put-flag-spec : {M : Type 1} → statement M
 put-flag-spec =

@@ -15,13 +15,13 @@ slice-aggregate-put-text : tie.Need-slice-aggregate-put-text
 slice-aggregate-put-text c = search needs
 
 put-text-requires-2 : tie.Need-put-text-requires-2
-put-text-requires-2 c κs = omega (arith, c .before .before .before .before .before .before .before .before .put-text .ensures .place, c .before .before .before .before .put-flag .ensures .place, flag-short (c .before .before .before .before .before .before .before .before .before .before .before .before .args .flag))
+put-text-requires-2 c κs = omega (arith, c .before .before .before .before .before .before .before .before .put-text .ensures .0 .place, c .before .before .before .before .put-flag .ensures .place, flag-short (c .before .before .before .before .before .before .before .before .before .before .before .before .args .flag))
 
 same-length : tie.Need-same-length
 same-length c = search needs
 
 returns : tie.Need-returns
-returns c = line-stored (c .before .before .before .before .before .before .before .before .before .before .before .put-text .ensures) (c .before .before .before .before .before .before .before .put-flag .ensures) (c .before .before .put-text2 .ensures) (omega (arith, flag-short (c .before .before .before .before .before .before .before .before .before .before .before .before .before .before .before .args .flag)))
+returns c = let h = line-stored (c .before .before .before .before .before .before .before .before .before .before .before .put-text .ensures .0) (c .before .before .before .before .before .before .before .put-flag .ensures) (c .before .before .put-text2 .ensures .0) (omega (arith, flag-short (c .before .before .before .before .before .before .before .before .before .before .before .before .before .before .before .args .flag))) in (h .0, (h .1, h .0 .place))
 
 pub put-flag-line-spec : {M : Type 1} → statement M
 put-flag-line-spec =

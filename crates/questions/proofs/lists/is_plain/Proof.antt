@@ -2,8 +2,7 @@
 use borrow.Author.Needs.{needs}
 use Rattle.doubles.proofs.Tests.{fit}
 use Rattle.doubles.proofs.Patterns.{finite-no-nan}
-use Rattle.questions.proofs.Tests.{plain-finite, plain-infinite}
-use Rattle.questions.proofs.Tests.{passes, plain-finite, plain-infinite}
+use Rattle.questions.proofs.Tests.{plain-finite, plain-infinite, passes}
 use Rattle.questions.proofs.lists.is_plain.Statement.{statement}
 use Rattle.questions.proofs.lists.is_plain.Tie as tie
 

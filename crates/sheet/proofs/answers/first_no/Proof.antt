@@ -5,8 +5,9 @@ use mathlib.Core.Bool.{Bool, false, not}
 use mathlib.Core.Path.{_≡_, refl, subst, sym, _∙_}
 use Prim.Native.Nat.{ℕ}
 use Rattle.sheet.specs.Lengths.{lengthsFine}
-use Rattle.questions.specs.Rows.{RowsLie}
-use Rattle.questions.specs.Questions.{sizesFine, startsFine}
+use Rattle.row_questions.specs.Rows.{RowsLie}
+use Rattle.questions.specs.Questions.{sizesFine}
+use Rattle.row_questions.specs.Questions.{startsFine}
 use Rattle.sheet.specs.Sheet.{Sheet, sheet}
 use Rattle.sheet.specs.Answers.{firstNo}
 use Rattle.sheet.proofs.Ask.{no, yes, passed}

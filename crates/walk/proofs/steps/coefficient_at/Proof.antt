@@ -1,7 +1,7 @@
 -- `coefficient_at` meets its contract. Assumes nothing.
 use native.Mathlib.Omega.{arith}
 use lib.Ieee.{ofBits}
-use Rattle.certificate.specs.Certificate.{lists}
+use Rattle.added_row.specs.Added.{lists}
 use Rattle.walk.proofs.Ways.{with-bounds, without-bounds}
 use borrow.Author.Needs.{needs}
 use Rattle.walk.proofs.steps.coefficient_at.Statement.{statement}

@@ -1,6 +1,6 @@
 -- `step` meets its contract. Assumes nothing.
 use lib.Ieee.{ofBits}
-use Rattle.certificate.specs.Certificate.{lists}
+use Rattle.added_row.specs.Added.{lists}
 use Rattle.edges.specs.Model.{Model, model}
 use Rattle.walk.specs.declared.steps.Coefficient.{Coefficient}
 use Rattle.walk.specs.Walk.{coefficientAt}

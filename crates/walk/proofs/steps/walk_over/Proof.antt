@@ -4,8 +4,9 @@ use borrow.Author.Needs.{needs}
 use mathlib.Core.Path.{_≡_, refl}
 use Prim.Native.Nat.{_-_}
 use lib.Ieee.{ofBits}
-use Rattle.certificate.specs.declared.combine.Sums.{Sums}
-use Rattle.certificate.specs.Certificate.{certificate, lists}
+use Rattle.added_row.specs.declared.adding.Sums.{Sums}
+use Rattle.certificate.specs.Certificate.{certificate}
+use Rattle.added_row.specs.Added.{lists}
 use Rattle.edges.specs.Model.{model}
 use Rattle.walk.specs.declared.steps.End.the-variants.{Spoilt, Unlimited}
 use Rattle.walk.specs.Walk.{started}

@@ -1,0 +1,4 @@
+pub mod Limits
+pub mod Neighbour
+pub mod Rounded
+pub mod Running

@@ -1,0 +1,35 @@
+-- `sum_up` meets its contract. Assumes nothing.
+use borrow.Author.Needs.{needs}
+use mathlib.Core.Path.{refl}
+use lib.Ieee.{ofBits}
+use Rattle.doubles.proofs.Tests.{fit}
+use Rattle.cdouble.specs.Exactness.{SumRange}
+use Rattle.directed.proofs.Limits.{both-tested, most-addend}
+use Rattle.directed.proofs.sums.sum_up.Statement.{statement}
+use Rattle.directed.proofs.sums.sum_up.Tie as tie
+
+within-requires : tie.Need-within-requires
+within-requires c κs = search needs
+
+within-requires-2 : tie.Need-within-requires-2
+within-requires-2 c κs = search needs
+
+near-sum-up-requires : tie.Need-near-sum-up-requires
+near-sum-up-requires c κs =
+    let w = c .before in
+    let s = w .before .before in
+    let a = s .args .a in
+    let b = s .args .b in
+    both-tested 1022 a b most-addend (fit a (s .good .0 .1)) (fit b (s .good .1 .0 .1)) (w .before .within .ensures) (w .within2 .ensures) (c .if1 .taken)
+
+sum-up-requires : tie.Need-sum-up-requires
+sum-up-requires c κs = search needs
+
+returns : tie.Need-returns
+returns c = search needs
+
+returns-2 : tie.Need-returns-2
+returns-2 c = search needs
+
+pub sum-up-spec : {M : Type 1} → statement M
+sum-up-spec = tie.close (tie.spec within-requires within-requires-2 near-sum-up-requires sum-up-requires returns returns-2)
