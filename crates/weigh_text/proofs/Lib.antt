@@ -1,4 +1,3 @@
 pub mod Cut
-pub mod FrontVerdict
 pub mod Reading
 pub mod Answering

@@ -34,10 +34,10 @@ use Rattle.sheet_text.specs.Form.{readIn, formMet, followsForm}
 use Rattle.sheet_text.specs.SheetIn.{lentOutputs, sheetIn}
 use Rattle.sheet_text.proofs.Lengths.{widened-long, lengths-fine}
 use Rattle.sheet_text.proofs.Slices.{structurals-cut, variables-cut, rows-cut, starts-cut, pairs-cut, rhos-cut, form-is}
-use Rattle.weigh_text.specs.Fronts.{mostVariables, mostWidened, HasRoom, fewest, fronts, frontVerdict}
+use Rattle.front_verdict.specs.Fronts.{mostVariables, mostWidened, HasRoom, fewest, fronts, frontVerdict}
 use Rattle.weigh_text.specs.TextVerdict.{textVerdict}
 use Rattle.weigh_text.proofs.Cut.{cutWidened, sides-same, cut-number, cut-whole, sizes-refused, same-verdict, same-declined}
-use Rattle.weigh_text.proofs.FrontVerdict.{fewest-most}
+use Rattle.front_verdict.proofs.Whole.{fewest-most}
 
 -- what was read, with lists from elsewhere
 abbrev pub readWith : Read → List ℕ → List ℕ → List Float → List Float → List Float → List ℕ → List Float → List Float → List Float → List Float → List ℕ → List ℕ → List Float → List ℕ → List ℕ → List Float → List Float → List Float → Sheet

@@ -12,7 +12,6 @@ use printer::Lines;
 use printer::put_answer;
 use verdict::Verdict;
 
-mod fronts;
 mod text;
 
 pub use text::text_verdict;

@@ -2,9 +2,9 @@
 use mathlib.Core.Path.{refl}
 use borrow.Author.Tests.{le-ltb, lt-ltb}
 use Rattle.cdouble.proofs.Contracts.{when-false, when-true}
-use Rattle.weigh_text.specs.Fronts.{mostWidened}
-use Rattle.weigh_text.proofs.fronts.looked_at.Statement.{statement}
-use Rattle.weigh_text.proofs.fronts.looked_at.Tie as tie
+use Rattle.front_verdict.specs.Fronts.{mostWidened}
+use Rattle.front_verdict.proofs.looked_at.Statement.{statement}
+use Rattle.front_verdict.proofs.looked_at.Tie as tie
 
 returns : tie.Need-returns
 returns c = when-true mostWidened refl (lt-ltb (c .before .args .widened) mostWidened (c .if1 .taken))

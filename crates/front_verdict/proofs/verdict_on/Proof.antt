@@ -3,10 +3,10 @@ use native.Mathlib.Omega.{arith}
 use mathlib.Core.Path.{refl}
 use Rattle.sheet.specs.Sheet.{Sheet, sheet}
 use Rattle.sheet_text.specs.SheetIn.{lentOutputs}
-use Rattle.weigh_text.proofs.FrontVerdict.{few, fewest-most, front-full, front-long, front-refused, sizes-pass}
+use Rattle.front_verdict.proofs.Whole.{few, fewest-most, front-full, front-long, front-refused, sizes-pass}
 use borrow.Author.Needs.{needs}
-use Rattle.weigh_text.proofs.fronts.verdict_on.Statement.{statement}
-use Rattle.weigh_text.proofs.fronts.verdict_on.Tie as tie
+use Rattle.front_verdict.proofs.verdict_on.Statement.{statement}
+use Rattle.front_verdict.proofs.verdict_on.Tie as tie
 
 abbrev long : tie.Start → Sheet
 long s = let a = s .args in sheet (a .sizes) (a .feasibility) (a .checked) (a .leaving-row) (a .leaving-up) lentOutputs (a .starts .now) (a .columns .now) (a .entries .now) (a .right-sides .now) (a .scales .now) (a .integer .now) (a .mins .now) (a .maxs .now) (a .low-tolerances .now) (a .high-tolerances .now) (a .basic .now) (a .places .now) (a .values .now) (a .widened-vars .now) (a .widened-ups .now) (a .rho-hi .now) (a .rho-lo .now) (a .second .now)

@@ -5,7 +5,7 @@ ghost use Rattle.gaps.specs.Rows.{rangesOf, rowsOf};
 ghost use Rattle.gaps.specs.ThirdDemand.{NoPoint};
 ghost use Rattle.sheet.specs.Sheet.{sheet};
 ghost use Rattle.sheet_text.specs.SheetIn.{lentOutputs};
-ghost use Rattle.weigh_text.specs.Fronts.{HasRoom, fewest, frontVerdict, fronts};
+ghost use Rattle.front_verdict.specs.Fronts.{HasRoom, fewest, frontVerdict, fronts};
 use questions::MOST_ROWS;
 use questions::MOST_STRUCTURALS;
 use sheet::Sizes;

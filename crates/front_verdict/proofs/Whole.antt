@@ -16,7 +16,7 @@ use Rattle.sheet.proofs.Accepted.{SizesHold, sizes-hold}
 use Rattle.verdict.specs.declared.Verdict.{Verdict}
 use Rattle.verdict.specs.Verdict.{refusedWith, verdict}
 use Rattle.verdict.proofs.Whole.{Declined}
-use Rattle.weigh_text.specs.Fronts.{mostVariables, mostWidened, fewest, fronts, frontVerdict}
+use Rattle.front_verdict.specs.Fronts.{mostVariables, mostWidened, fewest, fronts, frontVerdict}
 
 -- ---- how many widened items are looked at
 pub fewest-most : (widened : ℕ) → fewest widened ≤ mostWidened
