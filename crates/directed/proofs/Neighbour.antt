@@ -1,4 +1,4 @@
--- The neighbours of a double that is not near 0 are one bit pattern away, and neither is 0. Assumes nothing.
+-- The neighbours of a double of at least two units are one bit pattern away, and neither is 0. Assumes nothing.
 use mathlib.Core.Path.{_≡_, refl, sym, ap, _∙_, subst}
 use mathlib.Core.Logic.{inl, inr}
 use mathlib.Core.Bool.{Bool, true, false, not, cond}
@@ -23,12 +23,16 @@ use Rattle.doubles.proofs.Patterns.{rankOf, pattern, ranked, finite-no-nan, neg
 use Rattle.doubles.proofs.Zero.{withZero-rank}
 use Rattle.doubles.proofs.Next.{next-mirror}
 use Rattle.doubles.proofs.Steps.{Number, up-positive, up-negative}
-use Rattle.directed.specs.Far.{Far}
+use Rattle.directed.specs.Far.{Clear, NotMinusZero}
 
 -- ---- a number moved by 1 or not, as the code has it
 pub plus-one-if : (step : Bool) (b : ℕ) {n : ℕ} → n ≡ cond step 1 0 → b + n ≡ cond step (b + 1) b
 plus-one-if true b e = omega arith
 plus-one-if false b e = omega arith
+
+pub no-more-than : (step : Bool) (b : ℕ) {n : ℕ} → n ≡ cond step 1 0 → (T step → 0 < b) → n ≤ b
+no-more-than true b e h = let k = h tt in omega arith
+no-more-than false b e h = omega arith
 
 pub less-one-if : (step : Bool) (b : ℕ) {n : ℕ} → n ≡ cond step 1 0 → b - n ≡ cond step (b - 1) b
 less-one-if true b e = omega arith
@@ -59,32 +63,29 @@ sign-neg nan f = absurd f
 sign-neg (inf s) f = absurd f
 sign-neg (fin s m e) f = refl
 
-far-neg : (x : Float) → Far x → Far (neg x)
-far-neg x F = record { is-finite = rw (finite-neg x) (F .is-finite); least = rw (magnitude-neg x) (F .least) }
-
 -- ---- the rank is above 1
 one : atRank 52 1 ≡ 1
 unfolding atRank
 one = refl
 
-rank-above : (x : Float) → T (fits binary64 x) → Far x → 1 < rankOf x
-rank-above x h F =
-    let R = ranked x (F .is-finite) h in
+rank-above : (x : Float) → T (fits binary64 x) → T (finite x) → 2 ≤ magnitude x → 1 < rankOf x
+rank-above x h f l =
+    let R = ranked x f h in
     let v : atRank 52 (rankOf x) ≡ magnitude x = sym (signed-abs (sign x) (atRank 52 (rankOf x))) ∙ ap natAbs (sym (R .value)) ∙ exact-abs x in
-    elim (le-or-lt (rankOf x) 1) [ inl l ↦ absurd (none (atRank 52 (rankOf x)) (magnitude x) v (subst (λ (n : ℕ). atRank 52 (rankOf x) ≤ n) one (atRank-mono 52 (rankOf x) 1 l)) (F .least)) | inr l ↦ l ]
+    elim (le-or-lt (rankOf x) 1) [ inl k ↦ absurd (none (atRank 52 (rankOf x)) (magnitude x) v (subst (λ (n : ℕ). atRank 52 (rankOf x) ≤ n) one (atRank-mono 52 (rankOf x) 1 k)) l) | inr k ↦ k ]
   where
-    none : (a m : ℕ) → a ≡ m → a ≤ 1 → 2 ^ (1074 - 969) ≤ m → ⊥
+    none : (a m : ℕ) → a ≡ m → a ≤ 1 → 2 ≤ m → ⊥
     none a m e h k = omega arith
 
 -- ---- the neighbours by sign and rank
 abbrev further : Bool → ℕ → ℕ
 further s p = cond s (p - 1) (p + 1)
 
-next-up-is : (x : Float) → T (fits binary64 x) → Far x → (s : Bool) (p : ℕ) → sign x ≡ s → rankOf x ≡ p → 1 < p → p < infinity → nextUp x ≡ double s (further s p)
-next-up-is x h F s p e f g k = go s e
+next-up-is : (x : Float) → T (fits binary64 x) → T (finite x) → (s : Bool) (p : ℕ) → sign x ≡ s → rankOf x ≡ p → 1 < p → p < infinity → nextUp x ≡ double s (further s p)
+next-up-is x h t s p e f g k = go s e
   where
     n : Number x
-    n = record { no-nan = finite-no-nan x (F .is-finite); fit = h }
+    n = record { no-nan = finite-no-nan x t; fit = h }
 
     b : ℕ
     b = toBits binary64 x
@@ -110,69 +111,24 @@ next-up-is x h F s p e f g k = go s e
         let o = high b p (bits true e) g in
         sym (up-negative n (o .0) (o .1) (o .2) (ap (double true) (sym (minus b p (bits true e)))))
 
-module _ (x : Float) (h : T (fits binary64 x)) (F : Far x) where
+module _ (x : Float) (h : T (fits binary64 x)) (f : T (finite x)) where
   abbrev s : Bool
   s = sign x
 
   abbrev p : ℕ
   p = rankOf x
 
-  small : p < infinity
-  small = ranked x (F .is-finite) h .small
-
-  up-is : nextUp x ≡ double s (further s p)
-  up-is = next-up-is x h F s p refl refl (rank-above x h F) small
-
-  down-is : nextDown x ≡ double s (further (not s) p)
-  down-is =
-      next-mirror x
-      ∙ ap neg (next-up-is (neg x) (neg-fits binary64 x h) (far-neg x F) (not s) p (sign-neg x (F .is-finite)) (rank-neg x) (rank-above x h F) small)
-      ∙ neg-double (not s) (further (not s) p) (less (not s) p small)
-      ∙ twice s (further (not s) p)
-    where
-      less : (s : Bool) (p : ℕ) → p < infinity → further s p < 2 ^ 63
-      less true p h = omega arith
-      less false p h = omega arith
-
-      twice : (s : Bool) (r : ℕ) → double (not (not s)) r ≡ double s r
-      twice true r = refl
-      twice false r = refl
-
-  -- ---- none is 0
-  nonzero : (t : Bool) → (0 < further t p) × (further t p ≤ infinity)
-  nonzero t = go t p (rank-above x h F) small
-    where
-      go : (t : Bool) (p : ℕ) → 1 < p → p < infinity → (0 < further t p) × (further t p ≤ infinity)
-      go true p g k = omega arith
-      go false p g k = omega arith
-
-  own : withZero false x ≡ x
-  own = ap (withZero false) same ∙ withZero-rank false s p (le-of-lt (rank-above x h F)) (le-of-lt small) ∙ sym same
-    where
-      same : x ≡ double s p
-      same = pattern x (finite-no-nan x (F .is-finite)) h .same
-
-  pub up-no-zero : (step : Bool) → withZero false (cond step (nextUp x) x) ≡ cond step (nextUp x) x
-  up-no-zero true = ap (withZero false) up-is ∙ withZero-rank false s (further s p) (nonzero s .0) (nonzero s .1) ∙ sym up-is
-  up-no-zero false = own
-
-  pub down-no-zero : (step : Bool) → withZero false (cond step (nextDown x) x) ≡ cond step (nextDown x) x
-  down-no-zero true = ap (withZero false) down-is ∙ withZero-rank false s (further (not s) p) (nonzero (not s) .0) (nonzero (not s) .1) ∙ sym down-is
-  down-no-zero false = own
-
-  -- ---- the patterns, as the code finds them
   abbrev b : ℕ
   b = toBits binary64 x
 
-  bits : b ≡ cond s (2 ^ 63) 0 + p
-  bits = pattern x (finite-no-nan x (F .is-finite)) h .bits
+  small : p < infinity
+  small = ranked x f h .small
 
-  pub within-words : (0 < b) × (b < 2 ^ 64 - 1)
-  within-words = go s p b bits (rank-above x h F) small
-    where
-      go : (s : Bool) (p b : ℕ) → b ≡ cond s (2 ^ 63) 0 + p → 1 < p → p < infinity → (0 < b) × (b < 2 ^ 64 - 1)
-      go true p b e g k = omega arith
-      go false p b e g k = omega arith
+  same : x ≡ double s p
+  same = pattern x (finite-no-nan x f) h .same
+
+  bits : b ≡ cond s (2 ^ 63) 0 + p
+  bits = pattern x (finite-no-nan x f) h .bits
 
   -- a pattern of the same sign
   is-pattern : (r q : ℕ) → r ≡ cond s (2 ^ 63) 0 + q → q ≤ infinity → T (not (nanBits binary64 r)) × (ofBits binary64 r ≡ double s q)
@@ -189,6 +145,9 @@ module _ (x : Float) (h : T (fits binary64 x)) (F : Far x) where
           bare : (r q : ℕ) → r ≡ 0 + q → r ≡ q
           bare r q e = omega arith
 
+  own-pattern : (r : ℕ) → r ≡ b → T (not (nanBits binary64 r)) × (ofBits binary64 r ≡ x)
+  own-pattern r e = let z = is-pattern r p (e ∙ bits) (le-of-lt small) in (z .0, z .1 ∙ sym same)
+
   test : ltb b (2 ^ 63) ≡ not s
   test = go s p b bits small
     where
@@ -196,22 +155,94 @@ module _ (x : Float) (h : T (fits binary64 x)) (F : Far x) where
       go true p b e k = is-false (ltb b (2 ^ 63)) (not-T (ltb b (2 ^ 63)) (λ t. let l = ltb→lt b (2 ^ 63) t in omega arith))
       go false p b e k = is-true (ltb b (2 ^ 63)) (lt→ltb b (2 ^ 63) (omega arith))
 
-  pub above-pattern : (step : Bool) (r : ℕ) → r ≡ cond step (cond (ltb b (2 ^ 63)) (b + 1) (b - 1)) b → T (not (nanBits binary64 r)) × (ofBits binary64 r ≡ cond step (nextUp x) x)
-  above-pattern false r e = let z = is-pattern r p (e ∙ bits) (le-of-lt small) in (z .0, z .1 ∙ sym (pattern x (finite-no-nan x (F .is-finite)) h .same))
-  above-pattern true r e =
-      let z = is-pattern r (further s p) (e ∙ ap (λ (t : Bool). cond t (b + 1) (b - 1)) test ∙ go s p b bits (rank-above x h F)) (nonzero s .1) in
-      (z .0, z .1 ∙ sym up-is)
+  below-last : b < 2 ^ 64 - 1
+  below-last = go s p b bits small
     where
-      go : (s : Bool) (p b : ℕ) → b ≡ cond s (2 ^ 63) 0 + p → 1 < p → cond (not s) (b + 1) (b - 1) ≡ cond s (2 ^ 63) 0 + further s p
-      go true p b e g = omega arith
-      go false p b e g = omega arith
+      go : (s : Bool) (p b : ℕ) → b ≡ cond s (2 ^ 63) 0 + p → p < infinity → b < 2 ^ 64 - 1
+      go true p b e k = omega arith
+      go false p b e k = omega arith
 
-  pub below-pattern : (step : Bool) (r : ℕ) → r ≡ cond step (cond (ltb b (2 ^ 63)) (b - 1) (b + 1)) b → T (not (nanBits binary64 r)) × (ofBits binary64 r ≡ cond step (nextDown x) x)
-  below-pattern false r e = let z = is-pattern r p (e ∙ bits) (le-of-lt small) in (z .0, z .1 ∙ sym (pattern x (finite-no-nan x (F .is-finite)) h .same))
-  below-pattern true r e =
-      let z = is-pattern r (further (not s) p) (e ∙ ap (λ (t : Bool). cond t (b - 1) (b + 1)) test ∙ go s p b bits (rank-above x h F)) (nonzero (not s) .1) in
-      (z .0, z .1 ∙ sym down-is)
-    where
-      go : (s : Bool) (p b : ℕ) → b ≡ cond s (2 ^ 63) 0 + p → 1 < p → cond (not s) (b - 1) (b + 1) ≡ cond s (2 ^ 63) 0 + further (not s) p
-      go true p b e g = omega arith
-      go false p b e g = omega arith
+  -- ---- of at least two units
+  module _ (l : 2 ≤ magnitude x) where
+    above-one : 1 < p
+    above-one = rank-above x h f l
+
+    positive : 0 < b
+    positive = go s p b bits above-one
+      where
+        go : (s : Bool) (p b : ℕ) → b ≡ cond s (2 ^ 63) 0 + p → 1 < p → 0 < b
+        go true p b e g = omega arith
+        go false p b e g = omega arith
+
+    up-is : nextUp x ≡ double s (further s p)
+    up-is = next-up-is x h f s p refl refl above-one small
+
+    down-is : nextDown x ≡ double s (further (not s) p)
+    down-is =
+        next-mirror x
+        ∙ ap neg (next-up-is (neg x) (neg-fits binary64 x h) (rw (finite-neg x) f) (not s) p (sign-neg x f) (rank-neg x) above-one small)
+        ∙ neg-double (not s) (further (not s) p) (less (not s) p small)
+        ∙ twice s (further (not s) p)
+      where
+        less : (s : Bool) (p : ℕ) → p < infinity → further s p < 2 ^ 63
+        less true p h = omega arith
+        less false p h = omega arith
+
+        twice : (s : Bool) (r : ℕ) → double (not (not s)) r ≡ double s r
+        twice true r = refl
+        twice false r = refl
+
+    -- none is 0
+    nonzero : (t : Bool) → (0 < further t p) × (further t p ≤ infinity)
+    nonzero t = go t p above-one small
+      where
+        go : (t : Bool) (p : ℕ) → 1 < p → p < infinity → (0 < further t p) × (further t p ≤ infinity)
+        go true p g k = omega arith
+        go false p g k = omega arith
+
+    up-nonzero : NotMinusZero (nextUp x)
+    up-nonzero = ap (withZero false) up-is ∙ withZero-rank false s (further s p) (nonzero s .0) (nonzero s .1) ∙ sym up-is
+
+    down-nonzero : NotMinusZero (nextDown x)
+    down-nonzero = ap (withZero false) down-is ∙ withZero-rank false s (further (not s) p) (nonzero (not s) .0) (nonzero (not s) .1) ∙ sym down-is
+
+    -- the patterns
+    up-pattern : (r : ℕ) → r ≡ cond (ltb b (2 ^ 63)) (b + 1) (b - 1) → T (not (nanBits binary64 r)) × (ofBits binary64 r ≡ nextUp x)
+    up-pattern r e =
+        let z = is-pattern r (further s p) (e ∙ ap (λ (t : Bool). cond t (b + 1) (b - 1)) test ∙ go s p b bits above-one) (nonzero s .1) in
+        (z .0, z .1 ∙ sym up-is)
+      where
+        go : (s : Bool) (p b : ℕ) → b ≡ cond s (2 ^ 63) 0 + p → 1 < p → cond (not s) (b + 1) (b - 1) ≡ cond s (2 ^ 63) 0 + further s p
+        go true p b e g = omega arith
+        go false p b e g = omega arith
+
+    down-pattern : (r : ℕ) → r ≡ cond (ltb b (2 ^ 63)) (b - 1) (b + 1) → T (not (nanBits binary64 r)) × (ofBits binary64 r ≡ nextDown x)
+    down-pattern r e =
+        let z = is-pattern r (further (not s) p) (e ∙ ap (λ (t : Bool). cond t (b - 1) (b + 1)) test ∙ go s p b bits above-one) (nonzero (not s) .1) in
+        (z .0, z .1 ∙ sym down-is)
+      where
+        go : (s : Bool) (p b : ℕ) → b ≡ cond s (2 ^ 63) 0 + p → 1 < p → cond (not s) (b - 1) (b + 1) ≡ cond s (2 ^ 63) 0 + further (not s) p
+        go true p b e g = omega arith
+        go false p b e g = omega arith
+
+-- ---- the double or its neighbour, as the code has them
+pub up-no-zero : (x : Float) → T (fits binary64 x) → NotMinusZero x → (step : Bool) → Clear x step → NotMinusZero (cond step (nextUp x) x)
+up-no-zero x h n true C = up-nonzero x h (C .is-finite) (C .least tt)
+up-no-zero x h n false C = n
+
+pub down-no-zero : (x : Float) → T (fits binary64 x) → NotMinusZero x → (step : Bool) → Clear x step → NotMinusZero (cond step (nextDown x) x)
+down-no-zero x h n true C = down-nonzero x h (C .is-finite) (C .least tt)
+down-no-zero x h n false C = n
+
+pub within-words : (x : Float) → T (fits binary64 x) → (step : Bool) → Clear x step → (T step → 0 < toBits binary64 x) × (toBits binary64 x < 2 ^ 64 - 1)
+within-words x h step C = (λ t. positive x h (C .is-finite) (C .least t), below-last x h (C .is-finite))
+
+pub above-pattern : (x : Float) → T (fits binary64 x) → (step : Bool) → Clear x step → (r : ℕ) → r ≡ cond step (cond (ltb (toBits binary64 x) (2 ^ 63)) (toBits binary64 x + 1) (toBits binary64 x - 1)) (toBits binary64 x)
+    → T (not (nanBits binary64 r)) × (ofBits binary64 r ≡ cond step (nextUp x) x)
+above-pattern x h true C r e = up-pattern x h (C .is-finite) (C .least tt) r e
+above-pattern x h false C r e = own-pattern x h (C .is-finite) r e
+
+pub below-pattern : (x : Float) → T (fits binary64 x) → (step : Bool) → Clear x step → (r : ℕ) → r ≡ cond step (cond (ltb (toBits binary64 x) (2 ^ 63)) (toBits binary64 x - 1) (toBits binary64 x + 1)) (toBits binary64 x)
+    → T (not (nanBits binary64 r)) × (ofBits binary64 r ≡ cond step (nextDown x) x)
+below-pattern x h true C r e = down-pattern x h (C .is-finite) (C .least tt) r e
+below-pattern x h false C r e = own-pattern x h (C .is-finite) r e

@@ -15,14 +15,14 @@ use cdouble::CDouble;
 use doubles::Bounds;
 
 /// `c + y a` to both sides, for numbers of which no sum or product can be too large. A low part of 0 is common, and adds
-/// nothing.
+/// nothing. The products come first in the sums, since they are never -0.
 fn near_scaled(y: CDouble, a: f64, down: f64, up: f64) -> Bounds
     requires { ⌜ AtMost 510 (y .hi) × AtMost 510 (y .lo) × AtMost 510 a × AtMost 1020 down × AtMost 1020 up ⌝ }
     ensures { λ r. ⌜ (r .down ≡ sumDown (sumDown down (productDown (y .hi) a)) (productDown (y .lo) a)) × (r .up ≡ sumUp (sumUp up (productUp (y .hi) a)) (productUp (y .lo) a)) ⌝ }
 {
     let high = near_product(y.hi, a);
-    let lower = near_sum_down(down, high.down);
-    let upper = near_sum_up(up, high.up);
+    let lower = near_sum_down(high.down, down);
+    let upper = near_sum_up(high.up, up);
     if y.lo == 0.0 {
         return Bounds {
             down: lower,
@@ -30,8 +30,8 @@ fn near_scaled(y: CDouble, a: f64, down: f64, up: f64) -> Bounds
         };
     }
     let low = near_product(y.lo, a);
-    let lowest = near_sum_down(lower, low.down);
-    let uppermost = near_sum_up(upper, low.up);
+    let lowest = near_sum_down(low.down, lower);
+    let uppermost = near_sum_up(low.up, upper);
     Bounds {
         down: lowest,
         up: uppermost,

@@ -3,9 +3,9 @@
 ghost use mathlib.Core.Path.{_≡_};
 ghost use mathlib.Core.Bool.{cond};
 ghost use Prim.Native.Nat.{_+_, _-_, _^_, _≤_, _<_};
-ghost use lib.Dec.{ltb};
+ghost use lib.Dec.{T, ltb};
 ghost use Rattle.doubles.specs.Neighbours.{nextDown, nextUp};
-ghost use Rattle.directed.specs.Far.{Far};
+ghost use Rattle.directed.specs.Far.{Clear};
 
 /// The bit pattern of -0, in which only the sign is set.
 const SIGN: u64 = 0x8000_0000_0000_0000;
@@ -19,7 +19,7 @@ fn one_if(step: bool) -> u64
 
 /// One pattern further from 0, or nearer for a sign, where `step`.
 fn pattern_above(b: u64, step: bool) -> u64
-    requires { ⌜ (0 < b) × (b < 2 ^ 64 - 1) ⌝ }
+    requires { ⌜ (T step → 0 < b) × (b < 2 ^ 64 - 1) ⌝ }
     ensures { λ r. ⌜ r ≡ cond step (cond (ltb b (2 ^ 63)) (b + 1) (b - 1)) b ⌝ }
 {
     let n = one_if(step);
@@ -28,7 +28,7 @@ fn pattern_above(b: u64, step: bool) -> u64
 
 /// One pattern nearer to 0, or further for a sign, where `step`.
 fn pattern_below(b: u64, step: bool) -> u64
-    requires { ⌜ (0 < b) × (b < 2 ^ 64 - 1) ⌝ }
+    requires { ⌜ (T step → 0 < b) × (b < 2 ^ 64 - 1) ⌝ }
     ensures { λ r. ⌜ r ≡ cond step (cond (ltb b (2 ^ 63)) (b - 1) (b + 1)) b ⌝ }
 {
     let n = one_if(step);
@@ -37,7 +37,7 @@ fn pattern_below(b: u64, step: bool) -> u64
 
 /// `x`, or the next double up where `step`.
 pub(crate) fn above(x: f64, step: bool) -> f64
-    requires { ⌜ Far x ⌝ }
+    requires { ⌜ Clear x step ⌝ }
     ensures { λ r. ⌜ r ≡ cond step (nextUp x) x ⌝ }
 {
     let b = f64::to_bits(x);
@@ -47,7 +47,7 @@ pub(crate) fn above(x: f64, step: bool) -> f64
 
 /// `x`, or the next double down where `step`.
 pub(crate) fn below(x: f64, step: bool) -> f64
-    requires { ⌜ Far x ⌝ }
+    requires { ⌜ Clear x step ⌝ }
     ensures { λ r. ⌜ r ≡ cond step (nextDown x) x ⌝ }
 {
     let b = f64::to_bits(x);

@@ -1,16 +1,16 @@
 //! The largest value that the combined row can take within the widened ranges, rounded up.
 ghost use mathlib.Core.Path.{_≡_};
+ghost use Rattle.doubles.specs.Compare.{larger};
 ghost use Rattle.edges.specs.Model.{model};
 ghost use Rattle.edges.specs.Reads.{Readable};
 ghost use Rattle.gaps.specs.Rows.{rangesIn};
 ghost use Rattle.gaps.specs.Steps.{atEdge, limited, skipped, term, unlimited, withTerm};
 ghost use Rattle.largest.specs.Walk.{at, largestOrInfinite, rangeAt, stepped};
 ghost use Rattle.largest.specs.Reads.{WalkFits};
+use both_edges::both_edges;
 use directed::product_bounds;
 use directed::sum_up;
 use doubles::is_finite;
-use doubles::max;
-use edges::edge;
 
 /// The pattern of +infinity.
 pub const INFINITY: u64 = 0x7FF0_0000_0000_0000;
@@ -54,13 +54,23 @@ fn limited(l: f64, u: f64, low: f64, high: f64) -> bool
     is_finite(l) & is_finite(u) & (skipped(l, u) | !unlimited(l, u, low, high))
 }
 
+/// The larger of `a` and `b`, as `doubles::max` has it, by comparisons that need no branch.
+fn larger_of(a: f64, b: f64) -> f64
+    ensures { λ r. ⌜ r ≡ larger a b ⌝ }
+{
+    if a != a {
+        return b;
+    }
+    if a < b { b } else { a }
+}
+
 /// The larger of both ends times an edge, rounded up.
 fn at_edge(l: f64, u: f64, edge: f64) -> f64
     ensures { λ r. ⌜ r ≡ atEdge l u edge ⌝ }
 {
     let lower = product_bounds(l, edge);
     let upper = product_bounds(u, edge);
-    max(lower.up, upper.up)
+    larger_of(lower.up, upper.up)
 }
 
 /// The largest of both ends times the finite edges.
@@ -74,7 +84,7 @@ fn term(l: f64, u: f64, low: f64, high: f64) -> f64
     if !is_finite(high) {
         return at_low;
     }
-    max(at_low, at_edge(l, u, high))
+    larger_of(at_low, at_edge(l, u, high))
 }
 
 /// The sum with a variable's term, unless both ends of its coefficient are 0.
@@ -111,7 +121,7 @@ fn range_at(
     requires { ⌜ Readable (model structurals feasibility (now starts) (now columns) (now entries) (now «right_sides») (now scales) (now integer) (now mins) (now maxs) (now «low_tolerances») (now «high_tolerances») (now values) (now «widened_vars») (now «widened_ups»)) v ⌝ }
     ensures { λ r. ⌜ r ≡ rangeAt (rangesIn (model structurals feasibility (now (starts .entry)) (now (columns .entry)) (now (entries .entry)) (now («right_sides» .entry)) (now (scales .entry)) (now (integer .entry)) (now (mins .entry)) (now (maxs .entry)) (now («low_tolerances» .entry)) (now («high_tolerances» .entry)) (now (values .entry)) (now («widened_vars» .entry)) (now («widened_ups» .entry))) leaving) v ⌝ }
 {
-    let low = edge(
+    let edges = both_edges(
         structurals,
         feasibility,
         starts,
@@ -129,31 +139,10 @@ fn range_at(
         widened_ups,
         leaving,
         v,
-        false,
-    );
-    let high = edge(
-        structurals,
-        feasibility,
-        starts,
-        columns,
-        entries,
-        right_sides,
-        scales,
-        integer,
-        mins,
-        maxs,
-        low_tolerances,
-        high_tolerances,
-        values,
-        widened_vars,
-        widened_ups,
-        leaving,
-        v,
-        true,
     );
     Range {
-        low: low,
-        high: high,
+        low: edges.low,
+        high: edges.high,
     }
 }
 

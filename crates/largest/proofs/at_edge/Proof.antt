@@ -10,12 +10,12 @@ product-bounds-requires c κs = search needs
 product-bounds-requires-2 : tie.Need-product-bounds-requires-2
 product-bounds-requires-2 c κs = search needs
 
-max-requires : tie.Need-max-requires
-max-requires c κs = search needs
+larger-of-requires : tie.Need-larger-of-requires
+larger-of-requires c κs = search needs
 
 returns : tie.Need-returns
-returns c = at-edge (c .before .before .before .args .l) (c .before .before .before .args .u) (c .before .before .before .args .edge) (c .before .before .product-bounds .ensures .1) (c .before .product-bounds2 .ensures .1) (c .max .ensures)
+returns c = at-edge (c .before .before .before .args .l) (c .before .before .before .args .u) (c .before .before .before .args .edge) (c .before .before .product-bounds .ensures .1) (c .before .product-bounds2 .ensures .1) (c .larger-of .ensures)
 
 pub at-edge-spec : {M : Type 1} → statement M
 at-edge-spec =
-    tie.close (tie.spec product-bounds-requires product-bounds-requires-2 max-requires returns)
+    tie.close (tie.spec product-bounds-requires product-bounds-requires-2 larger-of-requires returns)

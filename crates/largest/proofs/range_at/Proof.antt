@@ -1,17 +1,18 @@
 -- `range_at` meets its contract. Assumes nothing.
-use mathlib.Core.Path.{refl}
-use borrow.Author.Needs.{needs}
+use mathlib.Core.Path.{ap₂}
+use lib.Ieee.{Float}
+use Rattle.largest.specs.declared.Range.{Range}
 use Rattle.largest.proofs.range_at.Statement.{statement}
 use Rattle.largest.proofs.range_at.Tie as tie
 
-edge-requires : tie.Need-edge-requires
-edge-requires c κs = c .before .before .before .before .before .before .before .before .before .before .before .before .before .pre
+abbrev ends : Float → Float → Range
+ends l h = record { low = l; high = h }
 
-edge-requires-2 : tie.Need-edge-requires-2
-edge-requires-2 c κs = c .before .before .before .before .before .before .before .before .before .before .before .before .before .before .pre
+both-edges-requires : tie.Need-both-edges-requires
+both-edges-requires c κs = c .before .before .before .before .before .before .before .before .before .before .before .before .before .pre
 
 returns : tie.Need-returns
-returns c = rw (c .before .edge .ensures, c .edge2 .ensures) refl
+returns c = ap₂ ends (c .both-edges .ensures .0) (c .both-edges .ensures .1)
 
 pub range-at-spec : {M : Type 1} → statement M
-range-at-spec = tie.close (tie.spec edge-requires edge-requires-2 returns)
+range-at-spec = tie.close (tie.spec both-edges-requires returns)

@@ -25,11 +25,11 @@ returns-2 c = term-at-low (c .before .before .before .before .before .args .l) (
 at-edge-requires-3 : tie.Need-at-edge-requires-3
 at-edge-requires-3 c κs = search needs
 
-max-requires : tie.Need-max-requires
-max-requires c κs = search needs
+larger-of-requires : tie.Need-larger-of-requires
+larger-of-requires c κs = search needs
 
 returns-3 : tie.Need-returns-3
-returns-3 c = term-at-both (c .before .before .before .before .before .before .before .args .l) (c .before .before .before .before .before .before .before .args .u) (c .before .before .before .before .before .before .before .args .low) (c .before .before .before .before .before .before .before .args .high) (c .before .before .before .before .before .before .is-finite .ensures) (c .before .before .before .before .before .if1 .left) (c .before .before .before .before .at-edge2 .ensures) (c .before .before .before .is-finite2 .ensures) (c .before .before .if2 .left) (c .before .at-edge3 .ensures) (c .max .ensures)
+returns-3 c = term-at-both (c .before .before .before .before .before .before .before .args .l) (c .before .before .before .before .before .before .before .args .u) (c .before .before .before .before .before .before .before .args .low) (c .before .before .before .before .before .before .before .args .high) (c .before .before .before .before .before .before .is-finite .ensures) (c .before .before .before .before .before .if1 .left) (c .before .before .before .before .at-edge2 .ensures) (c .before .before .before .is-finite2 .ensures) (c .before .before .if2 .left) (c .before .at-edge3 .ensures) (c .larger-of .ensures)
 
 pub term-spec : {M : Type 1} → statement M
 term-spec =
@@ -42,5 +42,5 @@ term-spec =
     is-finite-requires-2
     returns-2
     at-edge-requires-3
-    max-requires
+    larger-of-requires
     returns-3)

@@ -4,6 +4,7 @@ use mathlib.Core.Path.{_∙_}
 use lib.Ieee.{ofBits}
 use Rattle.doubles.proofs.Tests.{fit}
 use Rattle.directed.specs.Far.{Far}
+use Rattle.directed.proofs.Inexact.{far-clear}
 use Rattle.directed.proofs.Limits.{far-tested}
 use Rattle.directed.proofs.Rounded.{product-up-is, product-down-is, product-fits, product-finite-hi}
 use Rattle.directed.proofs.products.near_product.Statement.{statement}
@@ -28,10 +29,10 @@ far-requires : tie.Need-far-requires
 far-requires c κs = search needs
 
 below-requires : tie.Need-below-requires
-below-requires c κs = is-far (c .before)
+below-requires c κs = far-clear (is-far (c .before)) _
 
 above-requires : tie.Need-above-requires
-above-requires c κs = is-far (c .before .before .before)
+above-requires c κs = far-clear (is-far (c .before .before .before)) _
 
 product-bounds-requires : tie.Need-product-bounds-requires
 product-bounds-requires c κs = search needs

@@ -1,10 +1,8 @@
 -- `near_scaled` meets its contract: no sum leaves the range of `two_sum`. Assumes nothing.
 use borrow.Author.Needs.{needs}
-use mathlib.Core.Path.{ap, ap₂, _∙_}
 use lib.Ieee.{ofBits}
-use Rattle.doubles.specs.Directed.{sumUp, sumDown}
 use Rattle.doubles.proofs.Tests.{fit}
-use Rattle.directed.proofs.Running.{first-up, first-down, second-up, second-down, nothing-up, nothing-down}
+use Rattle.directed.proofs.Running.{first-up, first-down, second-up, second-down, last-up, last-down, nothing-up, nothing-down}
 use Rattle.directed.proofs.scaled.near_scaled.Statement.{statement}
 use Rattle.directed.proofs.scaled.near_scaled.Tie as tie
 
@@ -14,13 +12,13 @@ near-product-requires c κs = (c .pre .0, c .pre .2)
 near-sum-down-requires : tie.Need-near-sum-down-requires
 near-sum-down-requires c κs =
     let s = c .before in
-    first-down (s .args .down) (s .args .y .hi) (s .args .a) (s .pre .3) (s .pre .0) (s .pre .2) (c .near-product .ensures .0)
+    first-down (s .args .down) (s .args .y .hi) (s .args .a) (s .pre .3) (s .pre .0) (s .pre .2) (fit (s .args .down) (s .good .1 .1 .0 .1)) (c .near-product .ensures .0)
 
 near-sum-up-requires : tie.Need-near-sum-up-requires
 near-sum-up-requires c κs =
     let p = c .before in
     let s = p .before in
-    first-up (s .args .up) (s .args .y .hi) (s .args .a) (s .pre .4) (s .pre .0) (s .pre .2) (p .near-product .ensures .1)
+    first-up (s .args .up) (s .args .y .hi) (s .args .a) (s .pre .4) (s .pre .0) (s .pre .2) (fit (s .args .up) (s .good .1 .1 .1 .0 .1)) (p .near-product .ensures .1)
 
 returns : tie.Need-returns
 unfolding ofBits
@@ -64,9 +62,11 @@ returns-2 c =
     let u = q .before .before .before in
     let d = u .before in
     let p = d .before in
-    let s = p .before in (
-      e .near-sum-down2 .ensures ∙ ap₂ sumDown (d .near-sum-down .ensures ∙ ap (sumDown (s .args .down)) (p .near-product .ensures .0)) (q .near-product2 .ensures .0),
-      c .near-sum-up2 .ensures ∙ ap₂ sumUp (u .near-sum-up .ensures ∙ ap (sumUp (s .args .up)) (p .near-product .ensures .1)) (q .near-product2 .ensures .1),
+    let s = p .before in
+    let y = s .args .y in
+    let r = s .pre in (
+      last-down (s .args .down) (y .hi) (s .args .a) (r .3) (r .0) (r .2) (y .lo) (r .1) (e .near-sum-down2 .ensures) (d .near-sum-down .ensures) (p .near-product .ensures .0) (q .near-product2 .ensures .0),
+      last-up (s .args .up) (y .hi) (s .args .a) (r .4) (r .0) (r .2) (y .lo) (r .1) (c .near-sum-up2 .ensures) (u .near-sum-up .ensures) (p .near-product .ensures .1) (q .near-product2 .ensures .1),
     )
 
 pub near-scaled-spec : {M : Type 1} → statement M

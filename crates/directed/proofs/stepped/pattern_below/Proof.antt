@@ -5,7 +5,7 @@ use Prim.Native.Nat.{_+_, _-_, _^_}
 use native.Mathlib.Nat.{not-le-of-lt}
 use lib.Dec.{ltb, lt→ltb, ltb→lt, not-T}
 use lib.Ieee.Bits.{is-true, is-false}
-use Rattle.directed.proofs.Neighbour.{plus-one-if, less-one-if, low-pattern, high-pattern}
+use Rattle.directed.proofs.Neighbour.{plus-one-if, less-one-if, no-more-than, low-pattern, high-pattern}
 use Rattle.directed.proofs.stepped.pattern_below.Statement.{statement}
 use Rattle.directed.proofs.stepped.pattern_below.Tie as tie
 
@@ -13,7 +13,7 @@ one-if-requires : tie.Need-one-if-requires
 one-if-requires c κs = search needs
 
 sub-result : tie.Need-sub-result
-sub-result c = search needs
+sub-result c = let o = c .before in no-more-than (o .before .args .step) (o .before .args .b) (o .one-if .ensures .0) (o .before .pre .0)
 
 add-result : tie.Need-add-result
 add-result c = search needs

@@ -4,7 +4,8 @@ use mathlib.Core.Path.{refl}
 use lib.Ieee.{ofBits}
 use Rattle.doubles.proofs.Tests.{fit}
 use Rattle.cdouble.specs.Exactness.{SumRange}
-use Rattle.directed.proofs.Limits.{both-tested, most-addend}
+use Rattle.directed.proofs.Limits.{most-addend}
+use Rattle.directed.proofs.Running.{sum-ready}
 use Rattle.directed.proofs.sums.sum_down.Statement.{statement}
 use Rattle.directed.proofs.sums.sum_down.Tie as tie
 
@@ -15,12 +16,13 @@ within-requires-2 : tie.Need-within-requires-2
 within-requires-2 c κs = search needs
 
 near-sum-down-requires : tie.Need-near-sum-down-requires
+unfolding ofBits
 near-sum-down-requires c κs =
     let w = c .before in
     let s = w .before .before in
     let a = s .args .a in
     let b = s .args .b in
-    both-tested 1022 a b most-addend (fit a (s .good .0 .1)) (fit b (s .good .1 .0 .1)) (w .before .within .ensures) (w .within2 .ensures) (c .if1 .taken)
+    sum-ready a b most-addend (fit a (s .good .0 .1)) (fit b (s .good .1 .0 .1)) (w .before .within .ensures) (w .within2 .ensures) (c .if1 .taken)
 
 sum-down-requires : tie.Need-sum-down-requires
 sum-down-requires c κs = search needs

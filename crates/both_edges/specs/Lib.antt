@@ -1,0 +1,2 @@
+pub mod Mentioned
+pub mod Reads
