@@ -2,10 +2,11 @@
 //!
 //!     --seed N          the seed of the sheets, else 1
 //!     --repetitions N   how often each side is timed, else 400
+//!     --sheets N        so many sheets of each size, else as many as have 32,768 entries together
 //!     --check N         instead compares the outward gap in C with the verdict's on N sheets of all classes
 //!
-//! A size's sheets have 32,768 entries together, so that caches and branch prediction are put to the same test at every
-//! size. Both sides go through all sheets in turn, time and again, and of each side the fastest turn counts. The verdict
+//! With 32,768 entries at every size, caches and branch prediction are put to the same test at each; a few small sheets time
+//! and again are soon known by heart. Both sides go through all sheets in turn, time and again, and of each side the fastest turn counts. The verdict
 //! asks its questions of every sheet, which the others do not.
 #[path = "../differential/generate/mod.rs"]
 mod generate;
@@ -36,10 +37,10 @@ fn argument(word: &str) -> Option<u64> {
 }
 
 /// Sheets of so many entries whose verdict goes through all variables and declines.
-fn sheets(seed: u64, entries: usize, checked: bool) -> Vec<Sheet> {
+fn sheets(seed: u64, entries: usize, checked: bool, count: usize) -> Vec<Sheet> {
     let mut rng = Rng::of(seed, entries as u64);
     let mut found = Vec::new();
-    while found.len() < ENTRIES / entries {
+    while found.len() < count {
         let sheet = timed(&mut rng, entries, checked);
         let gap = outward::outward(&sheet);
         let verdict = Library::of(&sheet).verdict(&sheet);
@@ -60,15 +61,18 @@ fn time(best: &mut f64, turn: impl FnOnce()) {
     *best = best.min(start.elapsed().as_nanos() as f64);
 }
 
-fn bench(seed: u64, repetitions: u64) {
-    println!("seed {seed}; ns for a sheet, fastest of {repetitions} turns over {ENTRIES} entries");
+fn bench(seed: u64, repetitions: u64, few: Option<u64>) {
+    match few {
+        Some(count) => println!("seed {seed}; ns for a sheet, fastest of {repetitions} turns over {count} sheets"),
+        None => println!("seed {seed}; ns for a sheet, fastest of {repetitions} turns over {ENTRIES} entries"),
+    }
     println!(
         "{:>8} {:>10} {:>8} {:>8} {:>8} {:>7} {:>10}",
         "entries", "", "verdict", "Rust", "C", "ratio", "ns/entry"
     );
     for checked in [false, true] {
         for entries in SIZES {
-            let sheets = sheets(seed, entries, checked);
+            let sheets = sheets(seed, entries, checked, few.map_or(ENTRIES / entries, |count| count as usize));
             let mut lent: Vec<Library> = sheets.iter().map(Library::of).collect();
             let mut solvers: Vec<_> = sheets
                 .iter()
@@ -124,6 +128,6 @@ fn main() {
     let seed = argument("--seed").unwrap_or(1);
     match argument("--check") {
         Some(count) => check(seed, count),
-        None => bench(seed, argument("--repetitions").unwrap_or(400)),
+        None => bench(seed, argument("--repetitions").unwrap_or(400), argument("--sheets")),
     }
 }
