@@ -3,12 +3,11 @@ use native.Mathlib.Omega.{arith}
 use mathlib.Core.Path.{_≡_, refl, ap, sym, subst, _∙_}
 use mathlib.Core.Bool.{Bool, true, false, not}
 use mathlib.Core.List.{List}
-use Prim.Native.Nat.{ℕ, _+_, _≤_, _<_, _^_}
+use Prim.Native.Nat.{ℕ, _≤_}
 use borrow.Author.Tests.{not-true, not-false, ltb-true}
 use lib.Dec.{T, ltb}
 use lib.ListN.{length, take, length-take}
 use Rattle.cdouble.proofs.Contracts.{when-true, when-false}
-use Rattle.questions.specs.Limits.{mostEntries}
 use Rattle.questions.specs.Questions.{sizesFine}
 use Rattle.sheet.specs.declared.answers.Outputs.{Outputs}
 use Rattle.sheet.specs.Sheet.{Sheet, sheet, sizesOf, variables}

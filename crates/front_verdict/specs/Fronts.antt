@@ -1,7 +1,6 @@
 -- A text is read into lists that have room for the largest sheet. Here are the sheet that stands at their fronts, and the verdict on it. Assumes
 -- nothing.
 use mathlib.Core.Bool.{cond}
-use mathlib.Core.List.{List}
 use Prim.Native.Nat.{ℕ, _+_, _*_, _≤_}
 use lib.Dec.{ltb}
 use lib.ListN.{length, take}

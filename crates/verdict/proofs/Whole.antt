@@ -1,6 +1,6 @@
 -- The verdict, what is lent afterwards, and what a declined answer means, from what the calls gave. Assumes nothing.
-use mathlib.Core.Path.{_≡_, refl, ap, sym, subst, _∙_}
-use mathlib.Core.Bool.{Bool, false}
+use mathlib.Core.Path.{_≡_, refl, ap, subst, _∙_}
+use mathlib.Core.Bool.{false}
 use Prim.Native.Nat.{ℕ}
 use borrow.Author.Tests.{eq-eqb, ne-eqb}
 use lib.Dec.{T}
@@ -9,7 +9,7 @@ use lib.Ieee.Fits.{and-r}
 use Rattle.cdouble.specs.Compensated.{plusZero}
 use Rattle.cdouble.proofs.Contracts.{when-true, when-false}
 use Rattle.sheet.specs.Sheet.{Sheet, Doubles}
-use Rattle.sheet.specs.Answers.{Accepted, firstNo}
+use Rattle.sheet.specs.Answers.{firstNo}
 use Rattle.kept.specs.declared.Kept.{Kept}
 use Rattle.kept.specs.Kept.{Lent, kept, refused, proofOf, filledIn, after}
 use Rattle.kept.proofs.Whole.{accepts, answer-full, answer-refused}
@@ -18,7 +18,7 @@ use Rattle.gaps.specs.Steps.{outwardOf}
 use Rattle.gaps.specs.ThirdDemand.{NoPoint}
 use Rattle.outward_sheet.proofs.NoPoint.{no-point}
 use Rattle.verdict.specs.declared.Verdict.{Verdict}
-use Rattle.verdict.specs.Verdict.{declines, withOutward, refusedWith, fullVerdict, verdict}
+use Rattle.verdict.specs.Verdict.{withOutward, refusedWith, fullVerdict, verdict}
 
 -- "that a declined answer rules out every point"
 abbrev pub Declined : Sheet → Verdict → Type 0

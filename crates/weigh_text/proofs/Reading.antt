@@ -2,23 +2,21 @@
 use native.Mathlib.Omega.{arith}
 use mathlib.Core.Path.{_≡_, refl, ap, sym, subst, _∙_}
 use mathlib.Core.Bool.{Bool, true, false, not, cond}
-use mathlib.Core.List.{List, _∷_, map}
-use Prim.Native.Nat.{ℕ, _+_, _*_, _≤_, _<_}
-use borrow.Author.Tests.{eq-eqb, ltb-false, ltb-true, not-true, not-false}
-use lib.Dec.{T, eqb, ltb}
-use lib.ListN.{length, getD, take, length-take}
+use mathlib.Core.List.{List, map}
+use Prim.Native.Nat.{ℕ, _+_, _≤_}
+use borrow.Author.Tests.{ltb-false, ltb-true, not-true, not-false}
+use lib.Dec.{T, ltb}
+use lib.ListN.{length, getD, take}
 use lib.Seq.{length-sets, take-all}
 use lib.Ieee.{Float}
 use Rattle.cdouble.proofs.Contracts.{when-true, when-false}
 use Rattle.questions.specs.Limits.{mostRows, mostStructurals, mostEntries}
 use Rattle.questions.specs.Questions.{sizesFine}
-use Rattle.place_questions.specs.Questions.{widenedFine}
 use Rattle.sheet.specs.Sheet.{Sheet, sheet, variables}
 use Rattle.sheet.specs.Answers.{Accepted, firstNo, ask}
-use Rattle.sheet.specs.Lengths.{lengthsFine, lengthsFit}
 use Rattle.sheet.proofs.Accepted.{SizesHold, sizes-hold, all-yes}
 use Rattle.verdict.specs.declared.Verdict.{Verdict}
-use Rattle.verdict.specs.Verdict.{refusedWith, fullVerdict, verdict}
+use Rattle.verdict.specs.Verdict.{refusedWith, verdict}
 use Rattle.verdict.proofs.Whole.{Declined}
 use Rattle.many_widened.proofs.ManyWidened.{fine-few, front-decides}
 use Rattle.repeats.specs.Filled.{column, filledFrom}
