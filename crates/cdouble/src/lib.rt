@@ -17,6 +17,7 @@ pub use upward::distance_up;
 pub use upward::mul_up;
 
 /// The sum `hi + lo`, not evaluated.
+#[repr(C)]
 pub struct CDouble {
     pub hi: f64,
     pub lo: f64,

@@ -4,4 +4,5 @@ mod basis;
 mod widened;
 
 pub use basis::basis_fine;
+pub use widened::mark_of;
 pub use widened::widened_fine;

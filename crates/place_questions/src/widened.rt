@@ -13,7 +13,7 @@ use questions::MOST_STRUCTURALS;
 const MARKS: usize = 2 * (MOST_STRUCTURALS + MOST_ROWS);
 
 /// The place of the mark of a variable's side.
-fn mark_of(v: usize, up: u8) -> usize
+pub fn mark_of(v: usize, up: u8) -> usize
     requires { ⌜ 2 * v + 1 < 2 ^ 64 ⌝ }
     ensures { λ r. ⌜ r ≡ markOf v (isSet up) ⌝ }
 {

@@ -13,12 +13,12 @@ use Rattle.cdouble.proofs.Contracts.{when-true, when-false}
 use Rattle.questions.specs.Limits.{mostRows, mostStructurals, mostEntries}
 use Rattle.questions.specs.Questions.{sizesFine}
 use Rattle.sheet.specs.Sheet.{Sheet, sheet, variables}
-use Rattle.sheet.specs.Answers.{Accepted, firstNo, ask}
-use Rattle.sheet.proofs.Accepted.{SizesHold, sizes-hold, all-yes}
+use Rattle.sheet.proofs.Accepted.{SizesHold, sizes-hold, lengths-hold}
 use Rattle.verdict.specs.declared.Verdict.{Verdict}
 use Rattle.verdict.specs.Verdict.{refusedWith, verdict}
 use Rattle.verdict.proofs.Whole.{Declined}
-use Rattle.many_widened.proofs.ManyWidened.{fine-few, front-decides}
+use Rattle.same_widened.specs.Interchangeable.{Interchangeable}
+use Rattle.same_widened.proofs.SameWidened.{same-verdict, same-declined}
 use Rattle.repeats.specs.Filled.{column, filledFrom}
 use Rattle.repeats.proofs.Fronts.{front-of, take-map}
 use Rattle.text_lines.specs.declared.variable_lines.VariableLine.{VariableLine}
@@ -34,7 +34,7 @@ use Rattle.sheet_text.proofs.Lengths.{widened-long, lengths-fine}
 use Rattle.sheet_text.proofs.Slices.{structurals-cut, variables-cut, rows-cut, starts-cut, pairs-cut, rhos-cut, form-is}
 use Rattle.front_verdict.specs.Fronts.{mostVariables, mostWidened, HasRoom, fewest, fronts, frontVerdict}
 use Rattle.weigh_text.specs.TextVerdict.{textVerdict}
-use Rattle.weigh_text.proofs.Cut.{cutWidened, sides-same, cut-number, cut-whole, sizes-refused, same-verdict, same-declined}
+use Rattle.weigh_text.proofs.Cut.{cutWidened, cut-interchangeable, sizes-refused}
 use Rattle.front_verdict.proofs.Whole.{fewest-most}
 
 -- what was read, with lists from elsewhere
@@ -155,25 +155,18 @@ module _ (text : List ℕ) (room : Sheet) where
         let h = sizes-hold (sheetIn text .rows) (sheetIn text .structurals) (sheetIn text .entryCount) fine-sizes in
         omega (arith, h .rows-most, h .structurals-most)
 
-    same-sides : length (sheetIn text .widenedUps) ≡ length (sheetIn text .widenedVariables)
-    same-sides = sides-same (sheetIn text) mostWidened (lengths-fine text fine-sizes)
-
-    same-number : firstNo (cutWidened mostWidened (sheetIn text)) ≡ firstNo (sheetIn text)
-    same-number =
-        cut-number (sheetIn text) mostWidened (lengths-fine text fine-sizes)
-        (front-decides (variables (sheetIn text)) mostWidened (sheetIn text .widenedVariables) (sheetIn text .widenedUps) same-sides (omega (arith, few-variables)))
-
-    whole-list : Accepted (sheetIn text) → cutWidened mostWidened (sheetIn text) ≡ sheetIn text
-    whole-list accepted =
-        let short = fine-few (sheetIn text .widenedVariables) (sheetIn text .widenedUps) (variables (sheetIn text)) (all-yes (sheetIn text) accepted .widened-fine) in
-        cut-whole (sheetIn text) mostWidened (omega (arith, few-variables)) (omega (arith, few-variables, same-sides))
+    cut-same :
+        Interchangeable (sheetIn text) (sheetIn text .widenedVariables) (sheetIn text .widenedUps) (take mostWidened (sheetIn text .widenedVariables))
+        (take mostWidened (sheetIn text .widenedUps))
+    cut-same =
+        cut-interchangeable (sheetIn text) mostWidened (lengths-hold (sheetIn text) (lengths-fine text fine-sizes) .widened-long) (omega (arith, few-variables))
 
     within-limits : {v : Verdict} → v ≡ verdict (fronts (fewest (readIn text .widened)) long) → Declined (fronts (fewest (readIn text .widened)) long) v
         → (v ≡ verdict (sheetIn text)) × Declined (sheetIn text) v
     within-limits {v} e rules =
         let cut : v ≡ verdict (cutWidened mostWidened (sheetIn text)) = e ∙ ap verdict fronts-are in (
-          cut ∙ same-verdict (sheetIn text) (cutWidened mostWidened (sheetIn text)) same-number whole-list,
-          same-declined (sheetIn text) (cutWidened mostWidened (sheetIn text)) same-number whole-list cut (subst (λ (x : Sheet). Declined x v) fronts-are rules),
+          cut ∙ same-verdict (sheetIn text) _ _ _ _ cut-same,
+          same-declined (sheetIn text) _ _ _ _ cut-same cut (subst (λ (x : Sheet). Declined x v) fronts-are rules),
         )
 
   too-large : Fine ≡ false → verdict (sheetIn text) ≡ refusedWith 2
