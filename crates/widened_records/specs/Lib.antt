@@ -1,0 +1,3 @@
+pub mod Records
+pub mod Found
+pub mod Listed
