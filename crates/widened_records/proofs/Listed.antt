@@ -8,7 +8,7 @@ use mathlib.Core.List.{List, [], _∷_, _++_, map, map-append, append-nil}
 use Prim.Native.Nat.{ℕ, zero, suc, _+_, _*_, _/_, _%_, _<_, _≤_}
 use borrow.Author.Tests.{eqb-true, eqb-false, ne-eqb, ltb-true, lt-ltb, le-ltb}
 use lib.Dec.{eqb, ltb}
-use lib.ListN.{length, getD, length-append, length-map}
+use lib.ListN.{length, getD, length-map}
 use Rattle.exact.proofs.Naturals.{le-or-lt}
 use Rattle.questions.specs.Limits.{mostRows, mostStructurals}
 use Rattle.questions.specs.Flags.{isSet}
@@ -53,15 +53,6 @@ module _ (marks : List Bool) where
 
   sided : (n : ℕ) → length (ups n) ≡ length (vars n)
   sided n = length-map (markedBelow marks n) (λ (m : ℕ). m % 2) ∙ sym (length-map (markedBelow marks n) (λ (m : ℕ). m / 2))
-
-  few : (n : ℕ) → length (markedBelow marks n) ≤ n
-  unfolding markedBelow
-  few zero = omega arith
-  few (suc n) = go (few n) (getD marks n false)
-    where
-      go : length (markedBelow marks n) ≤ n → (t : Bool) → length (markedBelow marks n ++ cond t (n ∷ []) []) ≤ suc n
-      go before true = omega (arith, length-append (markedBelow marks n) (n ∷ []))
-      go before false = omega (arith, length-append (markedBelow marks n) [])
 
   -- one place more: its mark is set, or not
   vars-set : (n : ℕ) → getD marks n false ≡ true → vars (suc n) ≡ vars n ++ n / 2 ∷ []
@@ -153,14 +144,6 @@ listed-sided count f = go (f .amiss)
     go : (t : Bool) → length (cond t (0 ∷ []) (ups (f .marks) (2 * count))) ≡ length (cond t (count ∷ []) (vars (f .marks) (2 * count)))
     go true = refl
     go false = sided (f .marks) (2 * count)
-
-pub listed-few : (count : ℕ) (f : Found) → 1 ≤ count → length (foundVariables count f) ≤ 2 * count
-unfolding foundVariables
-listed-few count f some = go (f .amiss)
-  where
-    go : (t : Bool) → length (cond t (count ∷ []) (vars (f .marks) (2 * count))) ≤ 2 * count
-    go true = omega arith
-    go false = omega (arith, length-map (markedBelow (f .marks) (2 * count)) (λ (m : ℕ). m / 2), few (f .marks) (2 * count))
 
 -- one item that names no variable is refused
 lone-refused : (count : ℕ) → widenedFine count (count ∷ []) (0 ∷ []) ≡ false
