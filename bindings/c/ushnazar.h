@@ -45,7 +45,7 @@ enum ushnazar_refusal {
     /* Are there 1 to 128 rows, 0 to 256 structural variables, at most 4,096 entries? */
     USHNAZAR_SIZES = 2,
     /* Does each slice have the length these need, outputs at least (second corrections and errors also when
-       unchecked)? (verdict_of only) */
+       unchecked)? (not asked by weigh_text) */
     USHNAZAR_LENGTHS = 3,
     /* Do row starts begin at 0, never fall, end at the entry count? */
     USHNAZAR_ROW_STARTS = 4,
@@ -96,10 +96,25 @@ struct ushnazar_verdict {
     bool declined;
 };
 
+/* An item of the widened list: the solver widened this side of this variable. */
+struct ushnazar_widened {
+    size_t variable;
+    /* A flag, set for the upper side: any byte but 0 sets it. What the bytes behind it hold does not matter. */
+    uint8_t up;
+};
+
+/* The sum hi + lo of two doubles, not evaluated. */
+struct ushnazar_cdouble {
+    double hi;
+    double lo;
+};
+
 /* The layout that the archive was made for. A compiler with another one stops here. */
 typedef char ushnazar_size_is_of_64_bits[sizeof(size_t) == 8 ? 1 : -1];
 typedef char ushnazar_double_is_of_64_bits[sizeof(double) == 8 ? 1 : -1];
 typedef char ushnazar_verdict_is_of_72_bytes[sizeof(struct ushnazar_verdict) == 72 ? 1 : -1];
+typedef char ushnazar_widened_is_of_16_bytes[sizeof(struct ushnazar_widened) == 16 ? 1 : -1];
+typedef char ushnazar_cdouble_is_of_16_bytes[sizeof(struct ushnazar_cdouble) == 16 ? 1 : -1];
 
 /*
  * The verdict on a sheet lent in slices. With n = structurals + rows, the variables are 0 to n - 1, the structural ones
@@ -110,7 +125,8 @@ typedef char ushnazar_verdict_is_of_72_bytes[sizeof(struct ushnazar_verdict) == 
  * where the sheet is refused everything stays as it was. Nothing depends on what these lists held before, and they need
  * not be set.
  */
-struct ushnazar_verdict verdict_of(
+struct ushnazar_verdict sheet_verdict(
+    const struct ushnazar_widened *widened, size_t widened_length,  /* m: the widened items */
     size_t rows,
     size_t structurals,
     size_t entry_count,
@@ -136,11 +152,45 @@ struct ushnazar_verdict verdict_of(
     const uint8_t *basic, size_t basic_length,                     /* n: a flag */
     const size_t *places, size_t places_length,                    /* n: the basis place, read where basic is set */
     const double *values, size_t values_length,                    /* n */
-    const size_t *widened_vars, size_t widened_vars_length,        /* m: the variable */
-    const uint8_t *widened_ups, size_t widened_ups_length,         /* m: a flag, set for the upper side */
     const double *rho_hi, size_t rho_hi_length,                    /* rows: each row's multiplier, */
     const double *rho_lo, size_t rho_lo_length,                    /* rows: as a sum of two */
     const double *second, size_t second_length);                   /* rows, also when unchecked */
+
+/*
+ * The same with the widened list as two lists, for callers who hold it so: the answer and what is written are those of
+ * sheet_verdict with these variables and sides as records. Lists of unlike length are refused with USHNAZAR_LENGTHS.
+ */
+struct ushnazar_verdict verdict_of(
+    size_t rows,
+    size_t structurals,
+    size_t entry_count,
+    double feasibility,
+    uint8_t checked,
+    size_t leaving_row,
+    uint8_t leaving_up,
+    double *high, size_t high_length,
+    double *low, size_t low_length,
+    double *magnitudes, size_t magnitudes_length,
+    uint32_t *terms, size_t terms_length,
+    double *errors, size_t errors_length,
+    const size_t *starts, size_t starts_length,
+    const size_t *columns, size_t columns_length,
+    const double *entries, size_t entries_length,
+    const double *right_sides, size_t right_sides_length,
+    const double *scales, size_t scales_length,
+    const uint8_t *integer, size_t integer_length,
+    const double *mins, size_t mins_length,
+    const double *maxs, size_t maxs_length,
+    const double *low_tolerances, size_t low_tolerances_length,
+    const double *high_tolerances, size_t high_tolerances_length,
+    const uint8_t *basic, size_t basic_length,
+    const size_t *places, size_t places_length,
+    const double *values, size_t values_length,
+    const size_t *widened_vars, size_t widened_vars_length,  /* m: the variable */
+    const uint8_t *widened_ups, size_t widened_ups_length,   /* m: a flag, set for the upper side */
+    const double *rho_hi, size_t rho_hi_length,
+    const double *rho_lo, size_t rho_lo_length,
+    const double *second, size_t second_length);
 
 /*
  * The verdict on a sheet in text, as text: nine lines, or one line `(refused 7)`, each ended by a newline byte. The answer
@@ -148,6 +198,15 @@ struct ushnazar_verdict verdict_of(
  * 0 behind it, and places beyond stay as they were; if it does not fit nothing is written.
  */
 size_t weigh_text(const uint8_t *text, size_t text_length, uint8_t *out, size_t out_length);
+
+/*
+ * Two sums in place, as the certificate's are made. p is not null and lent for the call; every double is taken.
+ *
+ * cdouble_add adds v to *p: hi becomes hi + v, rounded, and what that rounding left out is added to lo.
+ * cdouble_add_scaled adds c * b: c.hi * b, with what its rounding left out, and c.lo * b, rounded.
+ */
+void cdouble_add(struct ushnazar_cdouble *p, double v);
+void cdouble_add_scaled(struct ushnazar_cdouble *p, struct ushnazar_cdouble c, double b);
 
 #ifdef __cplusplus
 }

@@ -1,4 +1,5 @@
-//! Times the full verdict against the Rust's `proof_of` and an outward reckoning in C, in one process on the same sheets.
+//! Times the full verdict against the Rust's `proof_of` and an outward reckoning in C, in one process on the same sheets. The
+//! verdict is `sheet_verdict`'s; the last column has the ratio of `verdict_of`, which takes the widened list as two lists.
 //!
 //!     --seed N          the seed of the sheets, else 1
 //!     --repetitions N   how often each side is timed, else 400
@@ -10,6 +11,8 @@
 //! asks its questions of every sheet, which the others do not.
 #[path = "../differential/generate/mod.rs"]
 mod generate;
+#[allow(dead_code)]
+#[path = "../differential/library.rs"]
 mod library;
 mod outward;
 #[allow(dead_code, unused_variables)]
@@ -18,13 +21,15 @@ mod rust;
 #[allow(dead_code)]
 #[path = "../differential/sheet.rs"]
 mod sheet;
+mod verdict;
 
 use generate::{class_of, timed, Rng};
-use library::Library;
+use library::Entry;
 use rust::{answer, reckon, Multipliers, Solver};
 use sheet::Sheet;
 use std::hint::black_box;
 use std::time::Instant;
+use verdict::Lent;
 
 const SIZES: [usize; 7] = [64, 128, 256, 512, 1024, 2048, 4096];
 const ENTRIES: usize = 32_768;
@@ -43,11 +48,14 @@ fn sheets(seed: u64, entries: usize, checked: bool, count: usize) -> Vec<Sheet> 
     while found.len() < count {
         let sheet = timed(&mut rng, entries, checked);
         let gap = outward::outward(&sheet);
-        let verdict = Library::of(&sheet).verdict(&sheet);
-        assert_eq!(verdict.refusal, 0);
-        assert_eq!(verdict.gap.to_bits(), answer(&sheet).gap.to_bits());
-        assert_eq!(verdict.outward.to_bits(), gap.to_bits());
-        if verdict.declined != 0 {
+        let [here, other] = Entry::ALL.map(|entry| Lent::of(&sheet).verdict(&sheet, entry));
+        for verdict in [here, other] {
+            assert_eq!(verdict.refusal, 0);
+            assert_eq!(verdict.gap.to_bits(), answer(&sheet).gap.to_bits());
+            assert_eq!(verdict.outward.to_bits(), gap.to_bits());
+            assert_eq!(verdict.declined, here.declined);
+        }
+        if here.declined != 0 {
             found.push(sheet);
         }
     }
@@ -67,22 +75,22 @@ fn bench(seed: u64, repetitions: u64, few: Option<u64>) {
         None => println!("seed {seed}; ns for a sheet, fastest of {repetitions} turns over {ENTRIES} entries"),
     }
     println!(
-        "{:>8} {:>10} {:>8} {:>8} {:>8} {:>7} {:>10}",
-        "entries", "", "verdict", "Rust", "C", "ratio", "ns/entry"
+        "{:>8} {:>10} {:>8} {:>8} {:>8} {:>7} {:>10} {:>10}",
+        "entries", "", "verdict", "Rust", "C", "ratio", "ns/entry", "two lists"
     );
     for checked in [false, true] {
         for entries in SIZES {
             let sheets = sheets(seed, entries, checked, few.map_or(ENTRIES / entries, |count| count as usize));
-            let mut lent: Vec<Library> = sheets.iter().map(Library::of).collect();
+            let mut lent: Vec<Lent> = sheets.iter().map(Lent::of).collect();
             let mut solvers: Vec<_> = sheets
                 .iter()
                 .map(|sheet| (Solver::of(sheet), Multipliers::of(sheet), sheet.leaving_row, sheet.leaving_up != 0))
                 .collect();
-            let [mut verdict, mut rust, mut c] = [f64::INFINITY; 3];
+            let [mut verdict, mut two_lists, mut rust, mut c] = [f64::INFINITY; 4];
             for _ in 0..repetitions {
                 time(&mut verdict, || {
-                    for (sheet, library) in sheets.iter().zip(&mut lent) {
-                        black_box(library.verdict(black_box(sheet)));
+                    for (sheet, lent) in sheets.iter().zip(&mut lent) {
+                        black_box(lent.verdict(black_box(sheet), Entry::Records));
                     }
                 });
                 time(&mut rust, || {
@@ -95,11 +103,18 @@ fn bench(seed: u64, repetitions: u64, few: Option<u64>) {
                         black_box(outward::outward(black_box(sheet)));
                     }
                 });
+                time(&mut two_lists, || {
+                    for (sheet, lent) in sheets.iter().zip(&mut lent) {
+                        black_box(lent.verdict(black_box(sheet), Entry::Lists));
+                    }
+                });
             }
-            let [verdict, rust, c] = [verdict, rust, c].map(|all| all / sheets.len() as f64);
+            let [verdict, two_lists, rust, c] = [verdict, two_lists, rust, c].map(|all| all / sheets.len() as f64);
             let how = if checked { "checked" } else { "unchecked" };
-            let (ratio, each) = (verdict / (rust + c), verdict / entries as f64);
-            println!("{entries:>8} {how:>10} {verdict:>8.0} {rust:>8.0} {c:>8.0} {ratio:>7.2} {each:>10.1}");
+            let (ratio, other, each) = (verdict / (rust + c), two_lists / (rust + c), verdict / entries as f64);
+            println!(
+                "{entries:>8} {how:>10} {verdict:>8.0} {rust:>8.0} {c:>8.0} {ratio:>7.2} {each:>10.1} {other:>10.2}"
+            );
         }
     }
 }
@@ -110,7 +125,7 @@ fn check(seed: u64, count: u64) {
     for at in 0..count {
         let sheet = generate::sheet(&mut Rng::of(seed, at), class_of(at), false);
         if sheet.first_no() == 0 {
-            let here = Library::of(&sheet).verdict(&sheet).outward;
+            let here = Lent::of(&sheet).verdict(&sheet, Entry::Records).outward;
             let there = outward::outward(&sheet);
             accepted += 1;
             finite += here.is_finite() as u64;

@@ -1,10 +1,11 @@
 //! Times a call here, and the kept reckoning in the Rust, on the same sheets. A call here asks the questions first, which
 //! the Rust does not. What they take is told by the same sheets with a leaving row that the last question refuses; the
-//! rest is the reckoning: of the kept numbers alone where the archive has `proof_of`, and with `verdict_of` of the outward
-//! gap too.
+//! rest is the reckoning: of the kept numbers alone where the archive has `proof_of`, and with `sheet_verdict` of the
+//! outward gap too.
 use crate::call::Call;
 use crate::generate::{timed, Rng};
 use crate::lent::Lending;
+use crate::library::Entry;
 use crate::rust::{reckon, Multipliers, Solver};
 use std::hint::black_box;
 use std::time::Instant;
@@ -39,7 +40,7 @@ pub fn run(seed: u64) {
             let mut lent: Vec<Call> = sheets.iter().map(|sheet| Call::of(sheet, Lending::Guarded)).collect();
             let here = best(calls, || {
                 for (sheet, call) in sheets.iter().zip(&mut lent) {
-                    black_box(call.run(black_box(sheet)));
+                    black_box(call.run(black_box(sheet), Entry::ALL[0]));
                 }
             });
             let mut refused = sheets.clone();
@@ -48,7 +49,7 @@ pub fn run(seed: u64) {
             }
             let questions = best(calls, || {
                 for (sheet, call) in refused.iter().zip(&mut lent) {
-                    black_box(call.run(black_box(sheet)));
+                    black_box(call.run(black_box(sheet), Entry::ALL[0]));
                 }
             });
             let mut solvers: Vec<_> = sheets

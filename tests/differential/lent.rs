@@ -16,34 +16,34 @@ pub enum Lending {
 
 pub trait Item: Copy {
     const GUARD: Self;
-    fn bits(self) -> u64;
+    fn bits(self) -> u128;
 }
 
 impl Item for f64 {
     const GUARD: f64 = f64::from_bits(0xC3C3_C3C3_C3C3_C3C3);
-    fn bits(self) -> u64 {
-        self.to_bits()
+    fn bits(self) -> u128 {
+        self.to_bits() as u128
     }
 }
 
 impl Item for usize {
     const GUARD: usize = 0xC3C3_C3C3_C3C3_C3C3;
-    fn bits(self) -> u64 {
-        self as u64
+    fn bits(self) -> u128 {
+        self as u128
     }
 }
 
 impl Item for u32 {
     const GUARD: u32 = 0xC3C3_C3C3;
-    fn bits(self) -> u64 {
-        self as u64
+    fn bits(self) -> u128 {
+        self as u128
     }
 }
 
 impl Item for u8 {
     const GUARD: u8 = 0xC3;
-    fn bits(self) -> u64 {
-        self as u64
+    fn bits(self) -> u128 {
+        self as u128
     }
 }
 
@@ -58,8 +58,9 @@ impl<T: Item> Lent<T> {
         Lent { memory, guards }
     }
 
-    pub fn pointer(&self) -> *const T {
-        self.items().as_ptr()
+    /// Where the slice begins, to write to it, and its length.
+    pub fn to_write(&mut self) -> (*mut T, usize) {
+        (self.pointer_to_write(), self.len())
     }
 
     pub fn pointer_to_write(&mut self) -> *mut T {

@@ -1,5 +1,6 @@
 //! Compares the verdict over slices with the Rust that its kept numbers follow and with the outward gap that document 01
-//! says, on sheets made from a seed. An archive without `verdict_of` is asked for the kept numbers alone.
+//! says, on sheets made from a seed. Each sheet is put to `sheet_verdict` and to `verdict_of`, which are to agree. An archive
+//! without them is asked for the kept numbers alone.
 //!
 //!     --seed N --sheets N   compares on so many sheets; ends with 1 if anything differs
 //!     --seed N --fuzz N     the same on slices that are damaged in every way
@@ -25,6 +26,8 @@ mod expected;
 mod generate;
 #[cfg(not(alone))]
 mod lent;
+#[cfg(not(alone))]
+mod library;
 mod outward;
 mod replay;
 #[allow(dead_code, unused_variables)]

@@ -170,6 +170,15 @@ pub fn reckon(solver: &Solver, multipliers: &mut Multipliers, row: usize, leavin
     proof.gap + proof.allowance
 }
 
+/// The sums in place: x0 + x1 and x2, and x0 + x1 and the product of x2 + x3 with x4.
+pub fn sums(x: [f64; 5]) -> [f64; 4] {
+    let mut added = CDouble { hi: x[0], lo: x[1] };
+    let mut scaled = added;
+    added.add(x[2]);
+    scaled.add_scaled(CDouble { hi: x[2], lo: x[3] }, x[4]);
+    [added.hi, added.lo, scaled.hi, scaled.lo]
+}
+
 /// A row that the certificate keeps, with its multiplier y.
 pub struct Kept {
     pub row: usize,

@@ -49,6 +49,17 @@ impl Sheet {
         self.starts[r]..self.starts[r + 1]
     }
 
+    /// Where the two widened lists differ in length, the sheet with the longer one cut to the shorter.
+    pub fn evened(&self) -> Option<Sheet> {
+        let (vars, ups) = (self.widened_vars.len(), self.widened_ups.len());
+        (vars != ups).then(|| {
+            let mut sheet = self.clone();
+            sheet.widened_vars.truncate(ups);
+            sheet.widened_ups.truncate(vars);
+            sheet
+        })
+    }
+
     /// The lent slices of doubles, of counts and of flags, in the order in which a call lends them.
     pub fn doubles(&self) -> [&Vec<f64>; 11] {
         [

@@ -1,5 +1,5 @@
 #!/usr/bin/env python3
-"""Writes the table of edge cases that the program edge_table runs the crate doubles on.
+"""Writes the table of edge cases that the program edge_table runs the crates double_bits and outward_rounding on.
 
     generate.py              write the table to standard output
     generate.py --check F    exit 1 where the file F is not that table

@@ -2,9 +2,12 @@
  * Calls the archive on sheets at the size limits.
  *
  *     firmware stack            how deep each function gets, in bytes
- *     firmware slices           one call of verdict_of for each accepted sheet, its words printed after it
+ *     firmware slices           one call of sheet_verdict for each accepted sheet, its words printed after it
+ *     firmware lists            the same with verdict_of
  *     firmware texts            the accepted sheets as texts, each after a line of its length and words
  *     firmware weigh < TEXTS    one call of weigh_text for each of these, its line printed after it
+ *     firmware add              one call of cdouble_add for each sheet's numbers, the words printed after it
+ *     firmware scaled           the same with cdouble_add_scaled
  *     firmware time             how long the slowest call takes here, in microseconds
  *     firmware states           how many of the verdicts another state of the floating-point unit changes
  */
@@ -15,11 +18,20 @@
 #include <time.h>
 #include <xmmintrin.h>
 
+/* The call that is counted or timed. */
+static void (*call)(void);
+
 static void count_verdict(const char *words)
 {
-    call_verdict();
+    call();
     must(verdict.refusal == 0, words);
     printf("%zu entries, %s\n", sheet.entry_count, words);
+}
+
+static void count_sum(const char *words)
+{
+    call();
+    printf("%s\n", words);
 }
 
 static void print_text(const char *words)
@@ -43,8 +55,9 @@ static void weigh_each(void)
 
 static double slowest;
 
-static void time_call(void (*call)(void))
+static void time_call(const char *words)
 {
+    (void)words;
     enum { TIMES = 200 };
     struct timespec before, after;
     clock_gettime(CLOCK_MONOTONIC, &before);
@@ -56,25 +69,21 @@ static void time_call(void (*call)(void))
     slowest = each > slowest ? each : slowest;
 }
 
-static void time_verdict(const char *words)
+static void measure_time(const char *name, void (*each)(void (*)(const char *)), void (*timed)(void))
 {
-    (void)words;
-    time_call(call_verdict);
-}
-
-static void time_text(const char *words)
-{
-    (void)words;
-    time_call(call_text);
-}
-
-static void measure_time(void)
-{
-    each_sheet(time_verdict);
-    printf("verdict_of %.0f\n", slowest);
+    call = timed;
     slowest = 0;
-    each_text(time_text);
-    printf("weigh_text %.0f\n", slowest);
+    each(time_call);
+    printf("%s %.*f\n", name, slowest < 1 ? 3 : 0, slowest);
+}
+
+static void measure_times(void)
+{
+    measure_time("sheet_verdict", each_sheet, call_sheet);
+    measure_time("verdict_of", each_sheet, call_lists);
+    measure_time("weigh_text", each_text, call_text);
+    measure_time("cdouble_add", each_sum, call_add);
+    measure_time("cdouble_add_scaled", each_sum, call_scaled);
 }
 
 /* The unit's state as programs start with it, and five others. */
@@ -92,12 +101,12 @@ static void count_changes(const char *words)
 {
     struct ushnazar_verdict usual;
     (void)words;
-    call_verdict();
+    call_sheet();
     usual = verdict;
     verdicts++;
     for (int k = 0; k < STATES; k++) {
         _mm_setcsr(states[k].bits);
-        call_verdict();
+        call_sheet();
         _mm_setcsr(states[0].bits);
         changed[k] += memcmp(&usual.gap, &verdict.gap, sizeof(double)) != 0
             || memcmp(&usual.allowance, &verdict.allowance, sizeof(double)) != 0
@@ -115,23 +124,32 @@ static void measure_states(void)
     }
 }
 
+static int is(const char *a, const char *b)
+{
+    return strcmp(a, b) == 0;
+}
+
 int main(int argc, char **argv)
 {
     const char *what = argc == 2 ? argv[1] : "";
-    if (strcmp(what, "stack") == 0) {
+    if (is(what, "stack")) {
         measure_stack();
-    } else if (strcmp(what, "slices") == 0) {
+    } else if (is(what, "slices") || is(what, "lists")) {
+        call = is(what, "slices") ? call_sheet : call_lists;
         each_sheet(count_verdict);
-    } else if (strcmp(what, "texts") == 0) {
+    } else if (is(what, "add") || is(what, "scaled")) {
+        call = is(what, "add") ? call_add : call_scaled;
+        each_sum(count_sum);
+    } else if (is(what, "texts")) {
         each_text(print_text);
-    } else if (strcmp(what, "weigh") == 0) {
+    } else if (is(what, "weigh")) {
         weigh_each();
-    } else if (strcmp(what, "time") == 0) {
-        measure_time();
-    } else if (strcmp(what, "states") == 0) {
+    } else if (is(what, "time")) {
+        measure_times();
+    } else if (is(what, "states")) {
         measure_states();
     } else {
-        fprintf(stderr, "firmware: stack, slices, texts, weigh, time or states\n");
+        fprintf(stderr, "firmware: stack, slices, lists, texts, weigh, add, scaled, time or states\n");
         return 1;
     }
     return 0;

@@ -4,7 +4,8 @@
     frames.py ARCHIVE
 
 Follows every path through every function, keeping count of what is pushed, and adds what the functions called take. The
-archive must have no recursion and no call through a pointer. Functions outside the archive are named and counted with
+archive must have no recursion and no call through a pointer. Objects may have functions of the same name that are their
+own: a call goes to the object's own function, else to an exported one. Functions outside the archive are named and counted with
 their return address alone. Prints a line for each exported function: its name, the bytes, what it calls outside.
 """
 import re
@@ -15,15 +16,17 @@ LINE = re.compile(r"^\s*([0-9a-f]+):\s+(?:(?:notrack|rep|repz|repnz|lock|data16|
 
 
 def functions_of(archive):
-    """Name -> list of (address, mnemonic, operands, symbol of a relocation or None)."""
+    """(object, name) -> list of (address, mnemonic, operands, symbol of a relocation or None)."""
     text = subprocess.run(
         ["objdump", "-dr", "--no-show-raw-insn", archive], check=True, capture_output=True, text=True
     ).stdout
-    found, code = {}, None
+    found, code, member = {}, None, None
     for line in text.splitlines():
         header = re.match(r"^[0-9a-f]+ <(.+)>:$", line)
-        if header:
-            code = found.setdefault(header.group(1), [])
+        if re.match(r"^\S+:\s+file format ", line):
+            member = line.split(":")[0]
+        elif header:
+            code = found[member, header.group(1)] = []
         elif re.match(r"^\s+[0-9a-f]+: R_X86_64_", line):
             symbol = re.sub(r"[-+]0x[0-9a-f]+$", "", line.split()[-1])
             address, mnemonic, operands, _ = code[-1]
@@ -31,6 +34,19 @@ def functions_of(archive):
         elif LINE.match(line):
             address, mnemonic, operands = LINE.match(line).groups()
             code.append((int(address, 16), mnemonic, operands, None))
+    return found
+
+
+def exports_of(archive):
+    """Name -> object of each exported function."""
+    text = subprocess.run(["nm", "--defined-only", archive], check=True, capture_output=True, text=True).stdout
+    found, member = {}, None
+    for line in text.splitlines():
+        words = line.split()
+        if len(words) == 1 and line.endswith(":"):
+            member = line[:-1]
+        elif len(words) == 3 and words[1] == "T":
+            found[words[2]] = member
     return found
 
 
@@ -110,22 +126,23 @@ def main():
     if len(sys.argv) != 2:
         sys.exit(__doc__)
     archive = sys.argv[1]
-    frames = {name: frame_of(name, code) for name, code in functions_of(archive).items()}
+    frames = {key: frame_of(key[1], code) for key, code in functions_of(archive).items()}
+    exported = exports_of(archive)
     outside = set()
 
-    def taken(name, under=()):
-        if name in under:
+    def taken(member, name, under=()):
+        key = (member, name) if (member, name) in frames else (exported.get(name), name)
+        if key in under:
             sys.exit(f"frames: {name} calls itself")
-        if name not in frames:
+        if key not in frames:
             outside.add(name)
             return 8
-        deepest, calls = frames[name]
-        return max([deepest] + [depth + taken(called, under + (name,)) for called, depth in calls])
+        deepest, calls = frames[key]
+        return max([deepest] + [depth + taken(key[0], called, under + (key,)) for called, depth in calls])
 
-    symbols = subprocess.run(["nm", "--defined-only", archive], check=True, capture_output=True, text=True).stdout
-    for name in sorted(line.split()[2] for line in symbols.splitlines() if len(line.split()) == 3 and line.split()[1] == "T"):
+    for name, member in sorted(exported.items()):
         outside.clear()
-        print(name, taken(name), " ".join(sorted(outside)))
+        print(name, taken(member, name), " ".join(sorted(outside)))
 
 
 if __name__ == "__main__":

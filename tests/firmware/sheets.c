@@ -115,6 +115,10 @@ static void make_variable(struct sheet *s, size_t v, enum numbers numbers)
 
 static void widen(struct sheet *s, size_t v, uint8_t up)
 {
+    /* what stands behind a record's flag is not 0 */
+    memset(&s->widened[s->widened_count], 0xA5, sizeof s->widened[0]);
+    s->widened[s->widened_count].variable = v;
+    s->widened[s->widened_count].up = up;
     s->widened_vars[s->widened_count] = v;
     s->widened_ups[s->widened_count++] = up;
 }
@@ -133,8 +137,8 @@ static void find_sides(const struct sheet *s, uint8_t *ups)
     }
 }
 
-/* The list is searched from its front, for each variable and side; by side means that the sides looked for most often
-   come last. */
+/* verdict_of searches the list from its front, for each variable and side; by side means that the sides looked for most
+   often come last. */
 static void make_widened(struct sheet *s, enum widened widened)
 {
     uint8_t ups[VARIABLES_HELD];

@@ -60,28 +60,43 @@ static void note(size_t *most, size_t depth)
 
 static void find_frame_end(void (*call)(void))
 {
-    verdict_function = (__typeof__(&verdict_of))probe;
+    sheet_function = (__typeof__(&sheet_verdict))probe;
+    lists_function = (__typeof__(&verdict_of))probe;
     text_function = (__typeof__(&weigh_text))probe;
+    add_function = (__typeof__(&cdouble_add))probe;
+    scaled_function = (__typeof__(&cdouble_add_scaled))probe;
     on_own_stack(call);
-    verdict_function = verdict_of;
+    sheet_function = sheet_verdict;
+    lists_function = verdict_of;
     text_function = weigh_text;
+    add_function = cdouble_add;
+    scaled_function = cdouble_add_scaled;
     deepest = deepest_refused = painted = 0;
 }
+
+/* The call that is painted. */
+static void (*call)(void);
 
 static void paint_verdict(const char *words)
 {
     static struct sheet sound;
-    note(&deepest, depth_of(call_verdict));
+    note(&deepest, depth_of(call));
     must(verdict.refusal == 0, words);
     sound = sheet;
     for (int question = USHNAZAR_SIZES; question <= USHNAZAR_LEAVING_ROW; question++) {
         if (question != USHNAZAR_LENGTHS) {
             spoil_sheet(&sheet, question);
-            note(&deepest_refused, depth_of(call_verdict));
+            note(&deepest_refused, depth_of(call));
             must(verdict.refusal == (uint32_t)question, "another refusal than was meant");
             sheet = sound;
         }
     }
+}
+
+static void paint_sum(const char *words)
+{
+    (void)words;
+    note(&deepest, depth_of(call));
 }
 
 static void paint_refused_text(const char *line)
@@ -130,13 +145,33 @@ static void paint_longest_text(void)
     paint_refused_text("(refused 1)\n");
 }
 
+static void begin(void (*painted_call)(void))
+{
+    call = painted_call;
+    find_frame_end(call);
+}
+
+static void end(const char *name)
+{
+    printf("%s %zu %zu %zu\n", name, deepest, deepest_refused, painted);
+}
+
 void measure_stack(void)
 {
-    find_frame_end(call_verdict);
+    begin(call_sheet);
     each_sheet(paint_verdict);
-    printf("verdict_of %zu %zu %zu\n", deepest, deepest_refused, painted);
-    find_frame_end(call_text);
+    end("sheet_verdict");
+    begin(call_lists);
+    each_sheet(paint_verdict);
+    end("verdict_of");
+    begin(call_text);
     each_text(paint_text);
     paint_longest_text();
-    printf("weigh_text %zu %zu %zu\n", deepest, deepest_refused, painted);
+    end("weigh_text");
+    begin(call_add);
+    each_sum(paint_sum);
+    end("cdouble_add");
+    begin(call_scaled);
+    each_sum(paint_sum);
+    end("cdouble_add_scaled");
 }

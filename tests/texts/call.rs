@@ -16,7 +16,7 @@ pub fn differs(text: &[u8], right: &[u8], places: usize, how: Lending) -> Option
     let lent = Lent::of(text, how);
     let mut out = Lent::of(&vec![FILL; places], how);
     // SAFETY: both pairs are slices that live through the call, the one written to is not shared
-    let length = unsafe { weigh_text(lent.pointer(), lent.len(), out.pointer_to_write(), out.len()) };
+    let length = unsafe { weigh_text(lent.items().as_ptr(), lent.len(), out.pointer_to_write(), out.len()) };
     if length != right.len() {
         return Some(format!("length {length}, expected {}", right.len()));
     }

@@ -1,5 +1,6 @@
 //! A sheet put together from what the solver holds.
 use crate::sheet::Sheet;
+use crate::slices::Widened;
 use alloc::vec;
 use alloc::vec::Vec;
 
@@ -107,7 +108,7 @@ pub struct SheetBuilder {
     feasibility: f64,
     structurals: Vec<(Domain, Variable)>,
     rows: Vec<Row>,
-    widened: Vec<(usize, Side)>,
+    widened: Vec<Widened>,
 }
 
 impl SheetBuilder {
@@ -159,7 +160,7 @@ impl SheetBuilder {
 
     /// Says that the solver widened this side of this variable; a row's slack has the number structural count + row.
     pub fn widened(&mut self, variable: usize, side: Side) -> &mut Self {
-        self.widened.push((variable, side));
+        self.widened.push(Widened { variable, up: u8::from(side == Side::Up) });
         self
     }
 
@@ -182,8 +183,7 @@ impl SheetBuilder {
             rho_hi: rho.iter().map(|pair| pair.hi).collect(),
             rho_lo: rho.iter().map(|pair| pair.lo).collect(),
             second,
-            widened_vars: self.widened.iter().map(|item| item.0).collect(),
-            widened_ups: self.widened.iter().map(|item| u8::from(item.1 == Side::Up)).collect(),
+            widened: self.widened,
             ..Sheet::default()
         };
         for (domain, variable) in self.structurals {

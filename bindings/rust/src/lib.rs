@@ -7,10 +7,10 @@
 //!
 //! `SheetBuilder` puts a sheet together from what the solver holds, and `weigh` weighs it, with lists of its own for the
 //! certificate. [`weigh_into`] borrows the caller's lists, and allocates nothing. [`weigh_text`] takes a sheet in text, as
-//! the program `weigh` reads it, and allocates nothing either. Without the feature `alloc`, which is on unless turned
-//! off, the crate has only these two.
+//! the program `weigh` reads it, and allocates nothing either; nor do the sums of a [`CDouble`], made in place. Without the
+//! feature `alloc`, which is on unless turned off, the crate has only these.
 //!
-//! Both functions of the archive take every input, and no call here panics on any. They keep nothing between calls and
+//! All functions of the archive take every input, and no call here panics on any. They keep nothing between calls and
 //! may run in several threads at once. They assume the floating-point state in which Rust programs run: rounding to
 //! nearest, subnormal numbers neither flushed nor taken as zero. `docs/FIRMWARE.md` has how deep the stack gets.
 #![no_std]
@@ -22,6 +22,7 @@ extern crate alloc;
 
 #[cfg(feature = "alloc")]
 mod builder;
+mod cdouble;
 mod raw;
 mod refusal;
 #[cfg(feature = "alloc")]
@@ -32,10 +33,11 @@ mod verdict;
 
 #[cfg(feature = "alloc")]
 pub use builder::{Direction, Domain, Multipliers, Pair, SheetBuilder, Side, State, Variable};
+pub use cdouble::CDouble;
 pub use refusal::Refusal;
 #[cfg(feature = "alloc")]
 pub use sheet::{weigh, Sheet};
-pub use slices::{weigh_into, Buffers, Lists, Slices};
+pub use slices::{weigh_into, weigh_two_lists_into, Buffers, Lists, Slices, Widened};
 pub use text::{weigh_text, Answer};
 #[cfg(feature = "alloc")]
 pub use verdict::Certificate;

@@ -1,7 +1,7 @@
 //! A sheet with lists of its own.
 use crate::builder::{State, Variable};
 use crate::refusal::Refusal;
-use crate::slices::{weigh_into, Lists, Slices};
+use crate::slices::{weigh_into, Lists, Slices, Widened};
 use crate::verdict::{Certificate, Verdict};
 use alloc::string::String;
 use alloc::vec;
@@ -31,8 +31,7 @@ pub struct Sheet {
     pub(crate) basic: Vec<u8>,
     pub(crate) places: Vec<usize>,
     pub(crate) values: Vec<f64>,
-    pub(crate) widened_vars: Vec<usize>,
-    pub(crate) widened_ups: Vec<u8>,
+    pub(crate) widened: Vec<Widened>,
     pub(crate) rho_hi: Vec<f64>,
     pub(crate) rho_lo: Vec<f64>,
     pub(crate) second: Vec<f64>,
@@ -86,8 +85,7 @@ impl Sheet {
             basic: &self.basic,
             places: &self.places,
             values: &self.values,
-            widened_vars: &self.widened_vars,
-            widened_ups: &self.widened_ups,
+            widened: &self.widened,
             rho_hi: &self.rho_hi,
             rho_lo: &self.rho_lo,
             second: &self.second,
@@ -146,8 +144,8 @@ impl fmt::Display for Sheet {
         for r in 0..self.rows {
             self.write_row(f, r)?;
         }
-        for (var, up) in self.widened_vars.iter().zip(&self.widened_ups) {
-            writeln!(f, "(widened {var} {})", if *up == 0 { "down" } else { "up" })?;
+        for Widened { variable, up } in &self.widened {
+            writeln!(f, "(widened {variable} {})", if *up == 0 { "down" } else { "up" })?;
         }
         writeln!(f, "(multipliers {})", if self.checked { "checked" } else { "unchecked" })?;
         for r in 0..self.rho_hi.len() {

@@ -1,8 +1,18 @@
 //! A sheet in the caller's slices, weighed into the caller's buffers.
-use crate::raw::call_verdict_of;
+use crate::raw::{call_sheet_verdict, call_verdict_of, RawVerdict};
 use crate::refusal::Refusal;
 use crate::verdict::{CertificateRef, Verdict};
 use crate::MOST_VARIABLES;
+
+/// An item of the widened list: the solver widened this side of this variable.
+#[repr(C)]
+#[derive(Clone, Copy, Debug)]
+pub struct Widened {
+    /// The variable; a row's slack has the number structural count + row.
+    pub variable: usize,
+    /// A flag, set for the upper side: any byte but 0 sets it.
+    pub up: u8,
+}
 
 /// A sheet in slices, as the archive reads it. With n = `structurals` + `rows`, the variables are 0 to n − 1: the
 /// structural ones first, then each row's slack. Any content and any lengths may be lent; a question refuses what does not
@@ -49,10 +59,8 @@ pub struct Slices<'a> {
     pub places: &'a [usize],
     /// The values.
     pub values: &'a [f64],
-    /// The variables of the widened items.
-    pub widened_vars: &'a [usize],
-    /// A flag for each widened item: it is the upper side.
-    pub widened_ups: &'a [u8],
+    /// The widened items.
+    pub widened: &'a [Widened],
     /// The high parts of the rows' multipliers.
     pub rho_hi: &'a [f64],
     /// The low parts.
@@ -125,13 +133,37 @@ const NOT_WRITTEN: f64 = -1.0;
 /// # Errors
 ///
 /// The first question whose answer is no; every place of the lists is then as it was.
-pub fn weigh_into<'a>(sheet: &Slices<'_>, mut lists: Lists<'a>) -> Result<Verdict<CertificateRef<'a>>, Refusal> {
+pub fn weigh_into<'a>(sheet: &Slices<'_>, lists: Lists<'a>) -> Result<Verdict<CertificateRef<'a>>, Refusal> {
+    weighed(sheet, lists, |lists| call_sheet_verdict(sheet, lists))
+}
+
+/// The same for a caller who holds the widened list as two lists, the variables and their flags. They stand in for
+/// `sheet.widened`, which is not read; the answer is that to the same items as records. Allocates nothing.
+///
+/// # Errors
+///
+/// The first question whose answer is no, [`Refusal::Lengths`] also where one of the two lists is longer; every place of
+/// the lists is then as it was.
+pub fn weigh_two_lists_into<'a>(
+    sheet: &Slices<'_>,
+    widened_vars: &[usize],
+    widened_ups: &[u8],
+    lists: Lists<'a>,
+) -> Result<Verdict<CertificateRef<'a>>, Refusal> {
+    weighed(sheet, lists, |lists| call_verdict_of(sheet, widened_vars, widened_ups, lists))
+}
+
+fn weighed<'a>(
+    sheet: &Slices<'_>,
+    mut lists: Lists<'a>,
+    call: impl FnOnce(&mut Lists<'a>) -> RawVerdict,
+) -> Result<Verdict<CertificateRef<'a>>, Refusal> {
     // the archive does not say whether it wrote errors: it writes them for all variables or for none, so the first tells
     let first_error = lists.errors.first().copied();
     if let Some(first) = lists.errors.first_mut() {
         *first = NOT_WRITTEN;
     }
-    let raw = call_verdict_of(sheet, &mut lists);
+    let raw = call(&mut lists);
     let written = lists.errors.first().is_some_and(|first| *first != NOT_WRITTEN);
     if let (Some(first), Some(before), false) = (lists.errors.first_mut(), first_error, written) {
         *first = before;

@@ -71,9 +71,9 @@ fn lengths_3() {
     let no_second = Multipliers::Checked { rho: vec![Pair::from(1.0)], second: vec![] };
     assert_eq!(refusal(&changed(|parts| parts.multipliers = no_second)), Some(Refusal::Lengths));
     assert_eq!(of_slices(|slices| slices.second = &[]), Some(Refusal::Lengths));
-    assert_eq!(of_slices(|slices| slices.widened_vars = &[0]), Some(Refusal::Lengths));
     let sheet = parts().sheet();
     let mut buffers = Buffers::new();
+    assert_eq!(weigh_two_lists_into(&sheet.slices(), &[0], &[], buffers.lists()).err(), Some(Refusal::Lengths));
     let mut lists = buffers.lists();
     lists.errors = &mut [];
     assert_eq!(weigh_into(&sheet.slices(), lists).err(), Some(Refusal::Lengths));

@@ -2,6 +2,5 @@
 mod adding;
 
 pub use adding::Sums;
-pub use adding::keep_row;
 pub use adding::spread_row;
 pub use adding::summed;

@@ -16,12 +16,13 @@ use Rattle.exact.proofs.Naturals.{le-or-lt}
 use Rattle.cdouble.proofs.Contracts.{when-true, when-false}
 use Rattle.place_questions.specs.Places.{widenedAmong}
 use Rattle.tolerances.specs.Tolerances.{toward}
-use Rattle.tolerances.specs.BandEdge.{bandEdge}
-use Rattle.edges.specs.Model.{Model, boundOf, tolsOf}
-use Rattle.edges.specs.Reads.{Readable}
+use Rattle.tolerance_band.specs.BandEdge.{bandEdge}
+use Rattle.variable_bounds.specs.Model.{Model, boundOf, tolsOf}
+use Rattle.widening_rooms.specs.Reads.{Readable}
 use Rattle.variable_kinds.specs.Variables.{isWidened, holdsOnBounds}
-use Rattle.edges.specs.Edges.{slackRoomAt, wideningRoom, edge}
-use Rattle.edges.proofs.Tests.{room-structural, room-slack}
+use Rattle.widening_rooms.specs.Rooms.{slackRoomAt, wideningRoom}
+use Rattle.edges.specs.Edges.{edge}
+use Rattle.widening_rooms.proofs.Tests.{room-structural, room-slack}
 use Rattle.both_edges.specs.Mentioned.{mentionedAmong}
 use Rattle.both_edges.specs.Reads.{RowInside}
 

@@ -5,19 +5,20 @@ ghost use lib.ListN.{getD, length};
 ghost use lib.Ieee.{nan};
 ghost use lib.Ieee.Scale.{finite};
 ghost use Rattle.row_questions.specs.Rows.{part};
-ghost use Rattle.tolerances.specs.BandEdge.{bandEdge};
+ghost use Rattle.tolerance_band.specs.BandEdge.{bandEdge};
 ghost use Rattle.row_values.specs.Activity.{slackRoom};
-ghost use Rattle.edges.specs.Edges.{edge, wideningRoom};
-ghost use Rattle.edges.specs.Model.{model};
-ghost use Rattle.edges.specs.Reads.{Readable};
+ghost use Rattle.edges.specs.Edges.{edge};
+ghost use Rattle.widening_rooms.specs.Rooms.{wideningRoom};
+ghost use Rattle.variable_bounds.specs.Model.{model};
+ghost use Rattle.widening_rooms.specs.Reads.{Readable};
 ghost use Rattle.both_edges.specs.Mentioned.{mentionedAmong};
 ghost use Rattle.both_edges.specs.Reads.{RowInside};
-use doubles::is_finite;
+use double_bits::is_finite;
 use edges::edge;
-use edges::widening_room;
 use row_values::slack_room;
-use tolerances::band_edge;
+use tolerance_band::band_edge;
 use variable_kinds::holds_on_bounds;
+use widening_rooms::widening_room;
 
 /// What belongs to the low and to the high side.
 pub struct Sides {

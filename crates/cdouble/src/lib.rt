@@ -6,15 +6,12 @@ ghost use Rattle.exact.specs.Value.{exact};
 ghost use Rattle.doubles.specs.Directed.{IsUp};
 ghost use Rattle.cdouble.specs.Compensated.{absUp, negated, normalized, plus, plusProduct, plusScaled, rounded, split, twoProduct, twoSum, value};
 ghost use Rattle.cdouble.specs.Exactness.{absℤ, AtMost, IsExact, IsSplit, IsToward, ProductRange, SumRange};
-use doubles::next_down;
-use doubles::next_up;
+use double_bits::next_down;
+use double_bits::next_up;
 
-mod upward;
+mod allowance;
 
-pub use upward::add_up;
-pub use upward::compensated_error;
-pub use upward::distance_up;
-pub use upward::mul_up;
+pub use allowance::compensated_error;
 
 /// The sum `hi + lo`, not evaluated.
 #[repr(C)]

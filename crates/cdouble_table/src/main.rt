@@ -1,19 +1,20 @@
-// Runs the crate `cdouble` on the table of standard input, which tests/cdouble_table/generate.py writes, and says for
-// each operation how many cases were run and how many differ from the table.
+// Runs the crates `cdouble` and `upward_rounding` on the table of standard input, which
+// tests/cdouble_table/generate.py writes, and says for each operation how many cases were run and how many differ from
+// the table.
 //
 // A line of the table is an operation's letter, five arguments and the two numbers of the right answer, with a space
 // between them. A number is the 16 digits of a double's bit pattern, or of a count for `compensated_error`. Arguments
 // and answers that an operation does not have are 0. A line of any other form counts as one that differs.
 use cdouble::CDouble;
-use cdouble::add_up;
 use cdouble::compensated_error;
-use cdouble::distance_up;
-use cdouble::mul_up;
 use tables::Value;
 use tables::bits_of;
 use tables::count;
 use tables::double_of;
 use tables::number;
+use upward_rounding::add_up;
+use upward_rounding::distance_up;
+use upward_rounding::mul_up;
 
 // Bytes in a line, its end included.
 const LINE: usize = 121;

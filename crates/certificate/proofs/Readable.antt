@@ -14,9 +14,9 @@ use Rattle.row_questions.specs.Rows.{RowsLie, slackOf}
 use Rattle.row_questions.specs.Questions.{columnFineAt, rowColumnsFine, rowColumnsFineAt, columnsFine}
 use Rattle.questions.proofs.All.{each, all-at, and-left}
 use Rattle.sheet.specs.Sheet.{Sheet, variables}
-use Rattle.sheet.specs.Answers.{Accepted}
-use Rattle.sheet.proofs.Accepted.{AllYes, all-yes, rows-lie}
-use Rattle.sheet.proofs.Consequences.{by-row, by-variable}
+use Rattle.sheet_answers.specs.Answers.{Accepted}
+use Rattle.sheet_answers.proofs.Accepted.{AllYes, all-yes, rows-lie}
+use Rattle.sheet_answers.proofs.Consequences.{by-row, by-variable}
 use Rattle.certificate.specs.System.{systemOf, rowColumns}
 use Rattle.added_row.specs.Reads.{Within}
 use Rattle.certificate.specs.Reads.{RowReadable}

@@ -10,7 +10,7 @@ use Rattle.questions.specs.Flags.{isSet}
 use Rattle.row_questions.specs.Rows.{part, slackOf}
 use Rattle.sheet.specs.Sheet.{Sheet}
 use Rattle.multipliers.specs.declared.weighing.Multiplier.{Multiplier}
-use Rattle.multipliers.specs.Refinement.{errorBounds, rhoAt}
+use Rattle.refinement_error.specs.Refinement.{errorBounds, rhoAt}
 use Rattle.multipliers.specs.Multipliers.{signed, weighed}
 
 pub record System : Type 0 where

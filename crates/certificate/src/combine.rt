@@ -9,11 +9,11 @@ ghost use Rattle.certificate.specs.System.{system};
 ghost use Rattle.certificate.specs.Certificate.{afterRows, certificate, combined, filled, withRow, written};
 ghost use Rattle.certificate.specs.Reads.{CertificateFits, RowGoesOn, RowsGoOn};
 use added_row::Sums;
-use added_row::keep_row;
 use added_row::spread_row;
 use added_row::summed;
 use cdouble::CDouble;
-use doubles::abs;
+use double_bits::abs;
+use kept_terms::keep_row;
 use multipliers::multiplier_at;
 use multipliers::spreads;
 

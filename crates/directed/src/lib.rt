@@ -1,5 +1,5 @@
 //! Sums and products rounded outward in f64 arithmetic: the rounded result and what its rounding left out say which
-//! neighbour is the bound. The results are those of `doubles`, which is called wherever this is not known to be exact.
+//! neighbour is the bound. The results are those of `outward_rounding`, called wherever this is not known to be exact.
 mod products;
 mod ranges;
 mod scaled;

@@ -9,7 +9,7 @@ use crate::ranges::within;
 use crate::stepped::above;
 use crate::stepped::below;
 use cdouble::CDouble;
-use doubles::Bounds;
+use outward_rounding::Bounds;
 
 /// The bounds of `a b`, for factors whose product cannot be too large for `two_product`.
 pub(crate) fn near_product(a: f64, b: f64) -> Bounds
@@ -22,7 +22,7 @@ pub(crate) fn near_product(a: f64, b: f64) -> Bounds
         let up = above(p.hi, p.lo > 0.0);
         Bounds { down: down, up: up }
     } else {
-        doubles::product_bounds(a, b)
+        outward_rounding::product_bounds(a, b)
     }
 }
 
@@ -33,6 +33,6 @@ pub fn product_bounds(a: f64, b: f64) -> Bounds
     if within(a, MOST_FACTOR) & within(b, MOST_FACTOR) {
         near_product(a, b)
     } else {
-        doubles::product_bounds(a, b)
+        outward_rounding::product_bounds(a, b)
     }
 }

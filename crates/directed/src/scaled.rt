@@ -12,7 +12,7 @@ use crate::sums::near_sum_up;
 use crate::sums::sum_down;
 use crate::sums::sum_up;
 use cdouble::CDouble;
-use doubles::Bounds;
+use outward_rounding::Bounds;
 
 /// `c + y a` to both sides, for numbers of which no sum or product can be too large. A low part of 0 is common, and adds
 /// nothing. The products come first in the sums, since they are never -0.

@@ -35,7 +35,7 @@ pub fn sum_up(a: f64, b: f64) -> f64
     if within(a, MOST_ADDEND) & within(b, MOST_ADDEND) & (a + b != 0.0) {
         near_sum_up(a, b)
     } else {
-        doubles::sum_up(a, b)
+        outward_rounding::sum_up(a, b)
     }
 }
 
@@ -46,6 +46,6 @@ pub fn sum_down(a: f64, b: f64) -> f64
     if within(a, MOST_ADDEND) & within(b, MOST_ADDEND) & (a + b != 0.0) {
         near_sum_down(a, b)
     } else {
-        doubles::sum_down(a, b)
+        outward_rounding::sum_down(a, b)
     }
 }

@@ -1,5 +1,6 @@
-// Runs the crate `doubles` on the table of standard input, which tests/edge_table/generate.py writes, and says for
-// each operation how many cases were run and how many differ from the table.
+// Runs the crates `double_bits` and `outward_rounding` on the table of standard input, which
+// tests/edge_table/generate.py writes, and says for each operation how many cases were run and how many differ from the
+// table.
 //
 // A line of the table is an operation's letter, its two arguments and the right answer, with a space between them:
 // `U 3FF0000000000000 3CA0000000000000 3FF0000000000001`. A number is the 16 digits of a double's bit pattern. An
@@ -41,20 +42,20 @@ fn operation(letter: u8) -> usize {
 // What an operation answers, as bits.
 fn answer(op: usize, a: f64, b: f64) -> u64 {
     match op {
-        0 => bits_of(doubles::abs(a)),
-        1 => if doubles::is_finite(a) { 1 } else { 0 },
-        2 => bits_of(doubles::max(a, b)),
-        3 => bits_of(doubles::min(a, b)),
-        4 => bits_of(doubles::next_up(a)),
-        5 => bits_of(doubles::next_down(a)),
-        6 => bits_of(doubles::sum_up(a, b)),
-        7 => bits_of(doubles::sum_down(a, b)),
+        0 => bits_of(double_bits::abs(a)),
+        1 => if double_bits::is_finite(a) { 1 } else { 0 },
+        2 => bits_of(double_bits::max(a, b)),
+        3 => bits_of(double_bits::min(a, b)),
+        4 => bits_of(double_bits::next_up(a)),
+        5 => bits_of(double_bits::next_down(a)),
+        6 => bits_of(outward_rounding::sum_up(a, b)),
+        7 => bits_of(outward_rounding::sum_down(a, b)),
         8 => {
-            let p = doubles::product_bounds(a, b);
+            let p = outward_rounding::product_bounds(a, b);
             bits_of(p.down)
         }
         _ => {
-            let p = doubles::product_bounds(a, b);
+            let p = outward_rounding::product_bounds(a, b);
             bits_of(p.up)
         }
     }

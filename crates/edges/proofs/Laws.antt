@@ -25,19 +25,20 @@ use Rattle.cdouble.proofs.RoundedUp.{exact-zero, zero-fits}
 use Rattle.sheet.specs.Sheet.{Sheet, variables, Doubles}
 use Rattle.row_questions.specs.Rows.{part, RowsLie}
 use Rattle.place_questions.specs.Places.{holdsPlace}
-use Rattle.sheet.specs.Answers.{Accepted}
-use Rattle.sheet.proofs.Accepted.{AllYes, all-yes, rows-lie}
-use Rattle.sheet.proofs.Consequences.{Plain, lengths, by-variable, by-row, range-at, low-plain, high-plain, feasibility-plain, scale-plain, product-finite, Holds, holder, one-holder, leaving-lt}
+use Rattle.sheet_answers.specs.Answers.{Accepted}
+use Rattle.sheet_answers.proofs.Accepted.{AllYes, all-yes, rows-lie}
+use Rattle.sheet_answers.proofs.Consequences.{Plain, lengths, by-variable, by-row, range-at, low-plain, high-plain, feasibility-plain, scale-plain, product-finite, Holds, holder, one-holder, leaving-lt}
 use Rattle.tolerances.specs.Tolerances.{toward, slackMargin, slackTol}
-use Rattle.tolerances.specs.BandEdge.{bandEdge}
+use Rattle.tolerance_band.specs.BandEdge.{bandEdge}
 use Rattle.tolerances.proofs.Room.{trimmed-room-fits, trimmed-room-law, no-minus-zero}
-use Rattle.tolerances.proofs.BandEdge.{band-edge-law, band-edge-fits}
+use Rattle.tolerance_band.proofs.BandEdge.{band-edge-law, band-edge-fits}
 use Rattle.row_values.specs.declared.activity.Activity.{Activity}
-use Rattle.edges.specs.Model.{modelOf, boundOf, tolsOf}
+use Rattle.variable_bounds.specs.Model.{modelOf, boundOf, tolsOf}
 use Rattle.row_values.specs.Activity.{activity, withEntry, afterEntries, rowActivity, rowTerms, slackRoom}
-use Rattle.edges.specs.Edges.{slackRoomAt, wideningRoom, leavingVariable, edge, lowEdge, highEdge}
+use Rattle.widening_rooms.specs.Rooms.{slackRoomAt, wideningRoom}
+use Rattle.edges.specs.Edges.{leavingVariable, edge, lowEdge, highEdge}
 use Rattle.variable_kinds.specs.Variables.{isWidened, holdsOnBounds, holderFrom}
-use Rattle.edges.specs.Reads.{RowReadable, Readable}
+use Rattle.widening_rooms.specs.Reads.{RowReadable, Readable}
 
 -- ---- what is to hold of an edge, whichever way it is chosen
 pub record EdgeHolds (bound : Float) (up : Bool) (e : Float) : Type 0 where

@@ -1,31 +1,17 @@
--- What the branches of `widening_room` and `edge` show, from what their calls gave. Assumes nothing.
-use mathlib.Core.Path.{_≡_, refl, ap, sym, _∙_}
+-- What the branches of `edge` show, from what its calls gave. Assumes nothing.
+use mathlib.Core.Path.{_≡_, ap, sym, _∙_}
 use mathlib.Core.Bool.{Bool, true, false, not}
-use Prim.Native.Nat.{ℕ, _-_, _<_, _≤_}
-use borrow.Author.Tests.{not-true, not-false, lt-ltb, le-ltb, eq-eqb, ne-eqb}
+use Prim.Native.Nat.{ℕ}
+use borrow.Author.Tests.{not-true, not-false, eq-eqb, ne-eqb}
 use lib.Ieee.{Float}
 use lib.Ieee.Scale.{finite}
-use Rattle.cdouble.specs.Compensated.{plusZero}
 use Rattle.cdouble.proofs.Contracts.{when-true, when-false}
 use Rattle.tolerances.specs.Tolerances.{toward}
-use Rattle.tolerances.specs.BandEdge.{bandEdge}
-use Rattle.edges.specs.Model.{Model, boundOf, tolsOf}
-use Rattle.edges.specs.Edges.{slackRoomAt, wideningRoom, edge}
-use Rattle.variable_kinds.specs.Variables.{isWidened, holdsOnBounds}
-
--- ---- `widening_room`, from what its calls gave
-module _ (m : Model) (v : ℕ) (up : Bool) {w : Bool} (is : w ≡ isWidened (m .widenedVariables) (m .widenedUps) v up) where
-  pub room-widened : w ≡ true → plusZero ≡ wideningRoom m v up
-  unfolding wideningRoom
-  room-widened t = when-true _ refl (sym is ∙ t)
-
-  pub room-structural : {r : Float} → w ≡ false → v < m .structurals → r ≡ toward (tolsOf m v) up → r ≡ wideningRoom m v up
-  unfolding wideningRoom
-  room-structural f less e = when-false _ (when-true _ e (lt-ltb v (m .structurals) less)) (sym is ∙ f)
-
-  pub room-slack : {r : Float} → w ≡ false → m .structurals ≤ v → r ≡ slackRoomAt m (v - m .structurals) → r ≡ wideningRoom m v up
-  unfolding wideningRoom
-  room-slack f above e = when-false _ (when-false _ e (le-ltb v (m .structurals) above)) (sym is ∙ f)
+use Rattle.tolerance_band.specs.BandEdge.{bandEdge}
+use Rattle.variable_bounds.specs.Model.{Model, boundOf, tolsOf}
+use Rattle.widening_rooms.specs.Rooms.{wideningRoom}
+use Rattle.edges.specs.Edges.{edge}
+use Rattle.variable_kinds.specs.Variables.{holdsOnBounds}
 
 -- ---- `edge`, from what its calls gave
 module _ (m : Model) (leaving v : ℕ) (up : Bool) {bound : Float} {f : Bool} (at : bound ≡ boundOf m v up) (is : f ≡ finite bound) where

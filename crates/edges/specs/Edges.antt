@@ -1,30 +1,16 @@
 -- The edges of a variable: document 01, "Tolerances and edges". Assumes nothing.
 use mathlib.Core.Bool.{Bool, true, false, cond}
-use Prim.Native.Nat.{ℕ, _-_}
-use lib.Dec.{eqb, ltb}
-use lib.ListN.{length, getD}
-use lib.Ieee.{Float, nan}
+use Prim.Native.Nat.{ℕ}
+use lib.Dec.{eqb}
+use lib.ListN.{length}
+use lib.Ieee.{Float}
 use lib.Ieee.Scale.{finite}
-use Rattle.cdouble.specs.Compensated.{plusZero}
 use Rattle.sheet.specs.Sheet.{Sheet}
-use Rattle.row_questions.specs.Rows.{part}
 use Rattle.tolerances.specs.Tolerances.{toward}
-use Rattle.tolerances.specs.BandEdge.{bandEdge}
-use Rattle.edges.specs.Model.{Model, modelOf, boundOf, tolsOf}
-use Rattle.row_values.specs.Activity.{slackRoom}
-use Rattle.variable_kinds.specs.Variables.{isWidened, holdsOnBounds, holderFrom}
-
--- the room of the slack of the row r
-abbrev pub slackRoomAt : Model → ℕ → Float
-slackRoomAt m r =
-    slackRoom (m .structurals) (m .feasibility) (getD (m .rightSides) r nan) (getD (m .scales) r nan) (part (m .starts) r (m .columns)) (part (m .starts) r (m .entries)) (m .values)
-
--- "`widening_room(var, up)`: 0 if the widened list holds (var, up); else for a structural variable its tolerance toward that side; else `slack_room`"
-unfoldable pub wideningRoom : Model → ℕ → Bool → Float
-wideningRoom m v up =
-    cond (isWidened (m .widenedVariables) (m .widenedUps) v up) plusZero
-    (cond (ltb v (m .structurals)) (toward (tolsOf m v) up)
-    (slackRoomAt m (v - m .structurals)))
+use Rattle.tolerance_band.specs.BandEdge.{bandEdge}
+use Rattle.variable_bounds.specs.Model.{Model, modelOf, boundOf, tolsOf}
+use Rattle.variable_kinds.specs.Variables.{holdsOnBounds, holderFrom}
+use Rattle.widening_rooms.specs.Rooms.{wideningRoom}
 
 -- "The leaving variable is the one whose basis place has the leaving row's number"
 abbrev pub leavingVariable : Sheet → ℕ

@@ -1,3 +1,1 @@
-pub mod Model
 pub mod Edges
-pub mod Reads

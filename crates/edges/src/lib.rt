@@ -1,6 +1,4 @@
 //! The edges of a variable: how far past its bounds the judgement lets it go.
 mod variables;
 
-pub use variables::bound_of;
 pub use variables::edge;
-pub use variables::widening_room;

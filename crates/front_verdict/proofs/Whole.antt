@@ -4,26 +4,19 @@ use mathlib.Core.Path.{_≡_, refl, ap, sym, subst, _∙_}
 use mathlib.Core.Bool.{Bool, true, false, not}
 use mathlib.Core.List.{List}
 use Prim.Native.Nat.{ℕ, _≤_}
-use borrow.Author.Tests.{not-true, not-false, ltb-true}
-use lib.Dec.{T, ltb}
+use borrow.Author.Tests.{not-true, not-false}
+use lib.Dec.{T}
 use lib.ListN.{length, take, length-take}
 use Rattle.cdouble.proofs.Contracts.{when-true, when-false}
 use Rattle.questions.specs.Questions.{sizesFine}
 use Rattle.sheet.specs.declared.answers.Outputs.{Outputs}
 use Rattle.sheet.specs.Sheet.{Sheet, sheet, sizesOf, variables}
-use Rattle.sheet.proofs.Accepted.{SizesHold, sizes-hold}
+use Rattle.sheet_answers.proofs.Accepted.{SizesHold, sizes-hold}
 use Rattle.verdict.specs.declared.Verdict.{Verdict}
 use Rattle.verdict.specs.Verdict.{refusedWith, verdict}
 use Rattle.verdict.proofs.Whole.{Declined}
-use Rattle.front_verdict.specs.Fronts.{mostVariables, mostWidened, fewest, fronts, frontVerdict}
-
--- ---- how many widened items are looked at
-pub fewest-most : (widened : ℕ) → fewest widened ≤ mostWidened
-fewest-most widened = go (ltb widened mostWidened) refl
-  where
-    go : (b : Bool) → ltb widened mostWidened ≡ b → mathlib.Core.Bool.cond b widened mostWidened ≤ mostWidened
-    go true e = omega (arith, ltb-true widened mostWidened e)
-    go false e = omega arith
+use Rattle.many_widened.specs.Fewest.{fewest}
+use Rattle.front_verdict.specs.Fronts.{mostVariables, fronts, frontVerdict}
 
 -- ---- the front of a list that has room
 pub front-long : {A : Type 0} {n : ℕ} (xs : List A) → n ≤ length xs → n ≡ length (take n xs)

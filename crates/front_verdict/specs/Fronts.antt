@@ -1,26 +1,18 @@
 -- A text is read into lists that have room for the largest sheet. Here are the sheet that stands at their fronts, and the verdict on it. Assumes
 -- nothing.
 use mathlib.Core.Bool.{cond}
-use Prim.Native.Nat.{ℕ, _+_, _*_, _≤_}
-use lib.Dec.{ltb}
+use Prim.Native.Nat.{ℕ, _+_, _≤_}
 use lib.ListN.{length, take}
 use Rattle.questions.specs.Limits.{mostRows, mostStructurals, mostEntries}
 use Rattle.questions.specs.Questions.{sizesFine}
 use Rattle.sheet.specs.Sheet.{Sheet, sheet, sizesOf, variables}
+use Rattle.many_widened.specs.Fewest.{fewest, mostWidened}
 use Rattle.verdict.specs.declared.Verdict.{Verdict}
 use Rattle.verdict.specs.Verdict.{refusedWith, verdict}
 
 -- each variable that the limits allow
 abbrev pub mostVariables : ℕ
 mostVariables = mostStructurals + mostRows
-
--- one more than the widened items that such a sheet may have
-abbrev pub mostWidened : ℕ
-mostWidened = 2 * mostVariables + 1
-
--- how many widened items are looked at
-abbrev pub fewest : ℕ → ℕ
-fewest widened = cond (ltb widened mostWidened) widened mostWidened
 
 -- lists with room for the largest sheet
 pub record HasRoom (long : Sheet) : Type 0 where

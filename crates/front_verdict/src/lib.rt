@@ -5,7 +5,9 @@ ghost use Rattle.gaps.specs.Rows.{rangesOf, rowsOf};
 ghost use Rattle.gaps.specs.ThirdDemand.{NoPoint};
 ghost use Rattle.sheet.specs.Sheet.{sheet};
 ghost use Rattle.sheet_text.specs.SheetIn.{lentOutputs};
-ghost use Rattle.front_verdict.specs.Fronts.{HasRoom, fewest, frontVerdict, fronts};
+ghost use Rattle.many_widened.specs.Fewest.{fewest};
+ghost use Rattle.front_verdict.specs.Fronts.{HasRoom, frontVerdict, fronts};
+use many_widened::looked_at;
 use questions::MOST_ROWS;
 use questions::MOST_STRUCTURALS;
 use sheet::Sizes;
@@ -16,20 +18,6 @@ use verdict::verdict_of;
 
 /// Each variable that the limits of the second question allow.
 pub const MOST_VARIABLES: usize = MOST_STRUCTURALS + MOST_ROWS;
-
-/// More widened items than pass the questions: a variable has two sides, and no side comes twice.
-pub const MOST_WIDENED: usize = 2 * MOST_VARIABLES + 1;
-
-/// How many widened items are looked at.
-fn looked_at(widened: usize) -> usize
-    ensures { λ r. ⌜ r ≡ fewest widened ⌝ }
-{
-    if widened < MOST_WIDENED {
-        widened
-    } else {
-        MOST_WIDENED
-    }
-}
 
 /// The verdict on the sheet whose lists are the fronts of these.
 pub fn verdict_on(

@@ -15,9 +15,9 @@ use Rattle.questions.specs.Questions.{allFinite}
 use Rattle.row_questions.specs.Questions.{slackEntryFineAt, entriesFine}
 use Rattle.questions.proofs.All.{each}
 use Rattle.sheet.specs.Sheet.{Sheet, variables, Doubles}
-use Rattle.sheet.specs.Answers.{Accepted}
-use Rattle.sheet.proofs.Accepted.{AllYes, all-yes}
-use Rattle.sheet.proofs.Consequences.{by-row, finite-at, right-side-finite, range-at}
+use Rattle.sheet_answers.specs.Answers.{Accepted}
+use Rattle.sheet_answers.proofs.Accepted.{AllYes, all-yes}
+use Rattle.sheet_answers.proofs.Consequences.{by-row, finite-at, right-side-finite, range-at}
 use Rattle.edges.specs.Edges.{leavingVariable}
 use Rattle.edges.proofs.Laws.{edge-fits, edge-outer, edge-no-nan, low-le-high}
 use Rattle.certificate.specs.System.{systemOf, rowColumns, rowEntries}

@@ -2,7 +2,7 @@
 use mathlib.Core.Path.{subst}
 use Prim.Native.Nat.{ℕ}
 use Rattle.sheet.specs.Sheet.{Sheet, variables, Doubles}
-use Rattle.sheet.specs.Answers.{Accepted}
+use Rattle.sheet_answers.specs.Answers.{Accepted}
 use Rattle.gaps.specs.Rows.{KeptRows, rowsOf, rangesOf}
 use Rattle.gaps.specs.Sameness.{SameRows, SameKept, Within}
 use Rattle.gaps.specs.ThirdDemand.{LargestIsOne, MissesAtLeast, NeverAbove, RulesOut, NotLowered}

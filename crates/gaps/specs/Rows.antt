@@ -5,7 +5,7 @@ use Prim.Native.Nat.{ℕ}
 use lib.Ieee.{Float}
 use lib.Ieee.Scale.{finite}
 use Rattle.sheet.specs.Sheet.{Sheet, variables}
-use Rattle.edges.specs.Model.{Model, modelOf}
+use Rattle.variable_bounds.specs.Model.{Model, modelOf}
 use Rattle.edges.specs.Edges.{edge, leavingVariable}
 use Rattle.multipliers.specs.declared.weighing.Multiplier.{Multiplier}
 use Rattle.multipliers.specs.declared.weighing.Multiplier.the-variants.{Zeroed, Dropped, Kept}

@@ -9,7 +9,7 @@ use Rattle.doubles.specs.Directed.{productWith, roundUp, roundDown}
 use Rattle.doubles.specs.Neighbours.{nextUp, nextDown}
 use Rattle.doubles.specs.Compare.{absolute, larger}
 use Rattle.cdouble.specs.Compensated.{twoSum, split, productError, twoProduct, upper, addUp, mulUp, compensatedError}
-use Rattle.tolerances.specs.BandEdge.{bandStart, tooFar, stepBack, turns, bandEdge}
+use Rattle.tolerance_band.specs.BandEdge.{bandStart, tooFar, stepBack, turns, bandEdge}
 use Rattle.hand_sums.specs.Starred.{Example, starred}
 
 pub starred-hold : map (λ (e : Example). toBits binary64 (e .given)) starred ≡ map (λ (e : Example). e .bits) starred

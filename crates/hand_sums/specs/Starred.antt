@@ -6,7 +6,7 @@ use lib.IntN.{pos, negsuc}
 use lib.Ieee.{Float, fin, binary64, ofBits}
 use Rattle.doubles.specs.Directed.{productUp, productDown}
 use Rattle.cdouble.specs.Compensated.{twoSum, twoProduct, addUp, mulUp, compensatedError}
-use Rattle.tolerances.specs.BandEdge.{bandEdge}
+use Rattle.tolerance_band.specs.BandEdge.{bandEdge}
 
 pub record Example : Type 0 where
   pub given : Float

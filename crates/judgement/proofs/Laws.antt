@@ -1,34 +1,23 @@
--- What document 01 promises of the judgement: when the cut is 0, and that a gap which is not finite never holds. Assumes nothing.
-use mathlib.Core.Path.{_≡_, refl, ap, sym, _∙_}
-use mathlib.Core.Bool.{Bool, true, false, _&&_, and-false}
-use Prim.Native.Nat.{ℕ, _<_}
-use borrow.Author.Tests.{lt-leb}
-use lib.Dec.{leb}
+-- What document 01 promises of the judgement: that a gap which is not finite never holds. Assumes nothing.
+use mathlib.Core.Path.{_≡_, refl}
+use mathlib.Core.Bool.{true, false, and-false}
+use Prim.Native.Nat.{ℕ}
 use lib.Ieee.{Float, nan, inf, fin, lt}
 use lib.Ieee.Scale.{finite}
 use Rattle.cdouble.specs.declared.CDouble.{CDouble}
-use Rattle.cdouble.specs.Compensated.{addUp, compensatedError, plusScaled, plusZero, value}
-use Rattle.cdouble.proofs.Contracts.{differ, when-false}
+use Rattle.cdouble.specs.Compensated.{addUp, compensatedError, plusScaled, value}
+use Rattle.cdouble.proofs.Contracts.{differ}
 use Rattle.added_row.specs.declared.adding.Sums.{Sums}
-use Rattle.edges.specs.Model.{Model}
-use Rattle.walk.specs.declared.steps.End.{End}
-use Rattle.walk.specs.declared.steps.End.the-variants.{Through, Spoilt as WalkSpoilt, Unlimited as WalkUnlimited}
-use Rattle.walk.specs.declared.steps.Walked.{Walked}
+use Rattle.variable_bounds.specs.Model.{Model}
+use Rattle.walk_states.specs.declared.steps.End.{End}
+use Rattle.walk_states.specs.declared.steps.End.the-variants.{Through, Spoilt as WalkSpoilt, Unlimited as WalkUnlimited}
+use Rattle.walk_states.specs.declared.steps.Walked.{Walked}
 use Rattle.walk.proofs.Laws.{by-test}
-use Rattle.judgement.specs.declared.gap.GapSum.{GapSum}
-use Rattle.judgement.specs.declared.gap.GapSum.the-variants.{Finite, Unlimited, Spoilt}
-use Rattle.judgement.specs.Judgement.{cutAt, finiteSum, gapOf, gapSum, judged, minusOne, weigh, weighedPlain}
-
--- ---- "cut is 0 unless the leaving variable is a slack and the gap finite"
-module _ (m : Model) (leaving : ℕ) (end errorOfSums gap : Float) where
-  pub cut-zero-structural : leaving < m .structurals → cutAt m leaving end errorOfSums gap ≡ plusZero
-  unfolding cutAt
-  cut-zero-structural less = sym (when-false _ refl (ap (λ (b : Bool). b && finite gap) (lt-leb (m .structurals) leaving less)))
-
-  pub cut-zero-not-finite : finite gap ≡ false → cutAt m leaving end errorOfSums gap ≡ plusZero
-  unfolding cutAt
-  cut-zero-not-finite f =
-      sym (when-false _ refl (ap (λ (b : Bool). leb (m .structurals) leaving && b) f ∙ and-false (leb (m .structurals) leaving)))
+use Rattle.weighed_gap.specs.declared.gap.GapSum.{GapSum}
+use Rattle.weighed_gap.specs.declared.gap.GapSum.the-variants.{Finite, Unlimited, Spoilt}
+use Rattle.slack_cut.specs.Cut.{cutAt}
+use Rattle.weighed_gap.specs.Gap.{finiteSum, gapOf, gapSum, minusOne, weigh, weighedPlain}
+use Rattle.judgement.specs.Judgement.{judged}
 
 -- ---- a gap that is not finite never holds
 -- a pair is a gap only where its value is finite

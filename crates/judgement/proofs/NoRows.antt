@@ -15,15 +15,19 @@ use Rattle.added_row.specs.declared.adding.Sums.{Sums}
 use Rattle.certificate.specs.System.{System, multiplierAt, rightSideAt, rowColumns, rowEntries}
 use Rattle.certificate.specs.Certificate.{Certificate, afterRows, combined, empty, withRow}
 use Rattle.added_row.specs.Added.{Lists, keptInto, pairAt, summed}
-use Rattle.edges.specs.Model.{Model}
-use Rattle.walk.specs.declared.steps.End.the-variants.{Through}
-use Rattle.walk.specs.declared.steps.Walked.{Walked}
-use Rattle.walk.specs.Walk.{coefficientAt, onward, started, step, walkOver, walked}
+use Rattle.variable_bounds.specs.Model.{Model}
+use Rattle.walk_states.specs.declared.steps.End.the-variants.{Through}
+use Rattle.walk_states.specs.declared.steps.Walked.{Walked}
+use Rattle.walk_step.specs.Step.{coefficientAt, step}
+use Rattle.walk.specs.Walk.{onward, started, walkOver}
+use Rattle.walk_states.specs.States.{walked}
 use Rattle.walk.proofs.Laws.{by-test, skipped}
-use Rattle.judgement.specs.declared.gap.GapSum.{GapSum}
-use Rattle.judgement.specs.declared.gap.GapSum.the-variants.{Finite}
-use Rattle.judgement.specs.declared.gap.Weight.{Weight}
-use Rattle.judgement.specs.Judgement.{cutAt, finiteSum, gapOf, gapSum, judged, judgement, weigh, weighedApart, weighedPlain}
+use Rattle.weighed_gap.specs.declared.gap.GapSum.{GapSum}
+use Rattle.weighed_gap.specs.declared.gap.GapSum.the-variants.{Finite}
+use Rattle.weighed_gap.specs.declared.gap.Weight.{Weight}
+use Rattle.slack_cut.specs.Cut.{cutAt}
+use Rattle.weighed_gap.specs.Gap.{finiteSum, gapOf, gapSum, weigh, weighedApart, weighedPlain}
+use Rattle.judgement.specs.Judgement.{judged, judgement}
 
 -- ---- where no row was kept
 -- the sums that the gap rests on are still 0

@@ -11,11 +11,11 @@ use lib.Ieee.{Float}
 use Rattle.cdouble.specs.Compensated.{plusZero}
 use Rattle.questions.proofs.All.{each}
 use Rattle.sheet.specs.Sheet.{Sheet, variables}
-use Rattle.sheet.specs.Answers.{Accepted}
+use Rattle.sheet_answers.specs.Answers.{Accepted}
 use Rattle.sheet.specs.Lengths.{outputsFit}
-use Rattle.sheet.proofs.Accepted.{AllYes, all-yes, sizes-hold}
-use Rattle.sheet.proofs.Consequences.{lengths, by-row, by-variable}
-use Rattle.edges.specs.Model.{modelOf}
+use Rattle.sheet_answers.proofs.Accepted.{AllYes, all-yes, sizes-hold}
+use Rattle.sheet_answers.proofs.Consequences.{lengths, by-row, by-variable}
+use Rattle.variable_bounds.specs.Model.{modelOf}
 use Rattle.edges.specs.Edges.{leavingVariable}
 use Rattle.edges.proofs.Laws.{readable, leaving-holds}
 use Rattle.certificate.specs.System.{systemOf}

@@ -11,16 +11,17 @@ use Rattle.cdouble.specs.Compensated.{plusZero}
 use Rattle.cdouble.proofs.Contracts.{when-true, when-false}
 use Rattle.questions.specs.Flags.{isSet}
 use Rattle.sheet.specs.Sheet.{Sheet, variables}
-use Rattle.sheet.specs.Answers.{Accepted, firstNo}
-use Rattle.edges.specs.Model.{Model, modelOf}
+use Rattle.sheet_answers.specs.Answers.{Accepted, firstNo}
+use Rattle.variable_bounds.specs.Model.{Model, modelOf}
 use Rattle.edges.specs.Edges.{leavingVariable}
 use Rattle.added_row.specs.declared.adding.Sums.{Sums}
 use Rattle.certificate.specs.System.{System, system, systemOf}
 use Rattle.added_row.specs.Added.{Lists}
 use Rattle.certificate.specs.Certificate.{Certificate, certificate, combined, over, written}
 use Rattle.certificate.specs.Reads.{Lent, CertificateFits}
-use Rattle.walk.specs.declared.steps.Coefficient.{Coefficient}
-use Rattle.walk.specs.Walk.{coefficientAt, step, onward, walkOver}
+use Rattle.walk_states.specs.declared.steps.Coefficient.{Coefficient}
+use Rattle.walk_step.specs.Step.{coefficientAt, step}
+use Rattle.walk.specs.Walk.{onward, walkOver}
 use Rattle.judgement.specs.declared.gap.Proof.{Proof}
 use Rattle.judgement.specs.Reads.{JudgeFits}
 use Rattle.judgement.specs.Judgement.{judged, judgement}

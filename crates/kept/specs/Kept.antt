@@ -10,8 +10,8 @@ use Rattle.cdouble.specs.Compensated.{plusZero}
 use Rattle.sheet.specs.declared.answers.Sizes.{Sizes}
 use Rattle.sheet.specs.declared.answers.Outputs.{Outputs}
 use Rattle.sheet.specs.Sheet.{Sheet, variables}
-use Rattle.sheet.specs.Answers.{firstNo}
-use Rattle.edges.specs.Model.{modelOf}
+use Rattle.sheet_answers.specs.Answers.{firstNo}
+use Rattle.variable_bounds.specs.Model.{modelOf}
 use Rattle.edges.specs.Edges.{leavingVariable}
 use Rattle.certificate.specs.System.{systemOf}
 use Rattle.added_row.specs.Added.{Lists}

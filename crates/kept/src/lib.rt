@@ -2,17 +2,17 @@
 //! first question that the sheet fails is answered instead, and then nothing lent is changed.
 ghost use mathlib.Core.Path.{_≡_};
 ghost use Rattle.sheet.specs.Sheet.{sheet};
-ghost use Rattle.sheet.specs.Answers.{Accepted};
+ghost use Rattle.sheet_answers.specs.Answers.{Accepted};
 ghost use Rattle.added_row.specs.Added.{lists};
 ghost use Rattle.kept.specs.Kept.{after, answer, filledIn, kept, lent, outputs, proofOf, refused, sizes};
 use certificate::certificate;
 use judgement::Proof;
 use judgement::judge;
-use multipliers::error_bounds;
+use refinement_error::error_bounds;
+use refusal_numbers::number_of;
 use sheet::Outputs;
 use sheet::Sizes;
-use sheet::first_no;
-use sheet::number_of;
+use sheet_answers::first_no;
 use variable_kinds::leaving_variable;
 
 /// The number of the first question whose answer is no, or 0 and the kept numbers.

@@ -3,8 +3,8 @@ use mathlib.Core.List.{List}
 use Prim.Native.Nat.{ℕ, _≤_, _<_}
 use lib.ListN.{length}
 use lib.Ieee.{Float}
-use Rattle.edges.specs.Model.{Model}
-use Rattle.edges.specs.Reads.{Readable}
+use Rattle.variable_bounds.specs.Model.{Model}
+use Rattle.widening_rooms.specs.Reads.{Readable}
 
 -- the walk over count variables
 pub record WalkFits (m : Model) (count : ℕ) (lower upper : List Float) : Type 0 where

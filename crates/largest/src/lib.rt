@@ -1,8 +1,8 @@
 //! The largest value that the combined row can take within the widened ranges, rounded up.
 ghost use mathlib.Core.Path.{_≡_};
 ghost use Rattle.doubles.specs.Compare.{larger};
-ghost use Rattle.edges.specs.Model.{model};
-ghost use Rattle.edges.specs.Reads.{Readable};
+ghost use Rattle.variable_bounds.specs.Model.{model};
+ghost use Rattle.widening_rooms.specs.Reads.{Readable};
 ghost use Rattle.gaps.specs.Rows.{rangesIn};
 ghost use Rattle.gaps.specs.Steps.{atEdge, limited, skipped, term, unlimited, withTerm};
 ghost use Rattle.largest.specs.Walk.{at, largestOrInfinite, rangeAt, stepped};
@@ -10,7 +10,7 @@ ghost use Rattle.largest.specs.Reads.{WalkFits};
 use both_edges::both_edges;
 use directed::product_bounds;
 use directed::sum_up;
-use doubles::is_finite;
+use double_bits::is_finite;
 
 /// The pattern of +infinity.
 pub const INFINITY: u64 = 0x7FF0_0000_0000_0000;
@@ -54,7 +54,7 @@ fn limited(l: f64, u: f64, low: f64, high: f64) -> bool
     is_finite(l) & is_finite(u) & (skipped(l, u) | !unlimited(l, u, low, high))
 }
 
-/// The larger of `a` and `b`, as `doubles::max` has it, by comparisons that need no branch.
+/// The larger of `a` and `b`, as `double_bits::max` has it, by comparisons that need no branch.
 fn larger_of(a: f64, b: f64) -> f64
     ensures { λ r. ⌜ r ≡ larger a b ⌝ }
 {

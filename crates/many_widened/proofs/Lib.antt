@@ -1,1 +1,2 @@
 pub mod ManyWidened
+pub mod Fewest

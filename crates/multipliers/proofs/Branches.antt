@@ -1,30 +1,15 @@
 -- What the branches of the functions over one multiplier show, from what their calls gave. Assumes nothing.
 use mathlib.Core.Path.{_≡_, refl, ap, sym, _∙_}
 use mathlib.Core.Bool.{Bool, true, false, _&&_, _||_}
-use mathlib.Core.List.{List}
-use Prim.Native.Nat.{ℕ}
-use lib.ListN.{length, getD}
-use lib.Ieee.{Float, nan, lt, le, eq}
-use lib.Ieee.Scale.{finite}
-use Rattle.doubles.specs.Compare.{absolute, larger}
+use lib.Ieee.{Float, lt, le, eq}
+use Rattle.doubles.specs.Compare.{absolute}
 use Rattle.cdouble.specs.declared.CDouble.{CDouble}
-use Rattle.cdouble.specs.Compensated.{_⊕_, _⊗_, negated, normalized, plusZero, value}
+use Rattle.cdouble.specs.Compensated.{_⊕_, negated, normalized, plusZero, value}
 use Rattle.cdouble.proofs.Contracts.{when-true, when-false}
-use Rattle.questions.proofs.Tests.{flag-set, flag-clear}
 use Rattle.multipliers.specs.declared.weighing.Multiplier.{Multiplier}
 use Rattle.multipliers.specs.declared.weighing.Multiplier.the-variants.{Zeroed, Dropped, Kept}
 use Rattle.multipliers.specs.declared.weighing.Spread.the-variants.{Nothing, By}
-use Rattle.multipliers.specs.declared.refinement.Norm.{Norm}
-use Rattle.multipliers.specs.declared.refinement.Norm.the-variants.{Largest, NotFinite}
-use Rattle.multipliers.specs.Refinement.{errorBounds, normWith, finiteMaxNorm, refinementConverged, converges, rhoAt, refined}
 use Rattle.multipliers.specs.Multipliers.{signed, needsInfiniteSide, weighed, spreads}
-
--- ---- `norm_with`
-pub norm-larger : {norm : Norm} {n y z : Float} {f : Bool} (x : Float) → norm ≡ Largest n → f ≡ finite x → f ≡ true → y ≡ absolute x → z ≡ larger n y → Largest z ≡ normWith norm x
-norm-larger {n = n} x is at t e g = ap Largest (g ∙ ap (larger n) e) ∙ when-true NotFinite refl (sym at ∙ t) ∙ ap (λ (m : Norm). normWith m x) (sym is)
-
-pub norm-spoilt : {norm : Norm} {n : Float} {f : Bool} (x : Float) → norm ≡ Largest n → f ≡ finite x → f ≡ false → NotFinite ≡ normWith norm x
-norm-spoilt {n = n} x is at t = when-false (Largest (larger n (absolute x))) refl (sym at ∙ t) ∙ ap (λ (m : Norm). normWith m x) (sym is)
 
 -- ---- `signed`
 pub signed-up : {up : Bool} (rho : CDouble) {n r : CDouble} → up ≡ true → n ≡ negated rho → r ≡ normalized n → r ≡ signed up rho
@@ -78,24 +63,6 @@ module _ (estimated : Bool) (error : Float) {m : Multiplier} {y : CDouble} where
   pub spreads-plain : m ≡ Kept y → estimated ≡ false → Nothing ≡ spreads estimated error m
   unfolding spreads
   spreads-plain kept f = when-false (By error) refl f ∙ ap (spreads estimated error) (sym kept)
-
--- ---- `norms_converge`
-pub converges-is : {x-norm second-norm : Norm} {x second : Float} → x-norm ≡ Largest x → second-norm ≡ Largest second → le second (refinementConverged ⊗ x) ≡ converges x-norm second-norm
-converges-is {second-norm = second-norm} {x = x} e f = ap (converges (Largest x)) (sym f) ∙ ap (λ (n : Norm). converges n second-norm) (sym e)
-
--- ---- `error_bounds`
-module _ (checked : ℕ) (rhoHi rhoLo second : List Float) where
-  pub bounds-unchecked : checked ≡ 0 → false ≡ errorBounds checked rhoHi rhoLo second
-  bounds-unchecked e = ap (λ (b : Bool). b && refined rhoHi rhoLo second) (sym (flag-clear checked e))
-
-  pub bounds-checked : {x s : Norm} {r : Bool} → (checked ≡ 0 → ⊥) → x ≡ finiteMaxNorm (λ k. value (rhoAt rhoHi rhoLo k)) (length rhoHi) → s ≡ finiteMaxNorm (λ k. getD second k nan) (length second) → r ≡ converges x s
-      → r ≡ errorBounds checked rhoHi rhoLo second
-  unfolding refined
-  bounds-checked {s = s} differs e f g =
-      g
-      ∙ ap (λ (n : Norm). converges n s) e
-      ∙ ap (converges (finiteMaxNorm (λ k. value (rhoAt rhoHi rhoLo k)) (length rhoHi))) f
-      ∙ ap (λ (b : Bool). b && refined rhoHi rhoLo second) (sym (flag-set checked differs))
 
 -- ---- `multiplier_at`
 pub multiplier-is : (estimated up : Bool) (rho : CDouble) (second min max : Float) {y : CDouble} {error : Float} {r : Multiplier} → y ≡ signed up rho → error ≡ absolute second → r ≡ weighed estimated error y min max

@@ -1,2 +1,1 @@
-pub mod Refinement
 pub mod Multipliers

@@ -1,8 +1,6 @@
-//! The multipliers that a row of the basis inverse suggests: whether their errors are bounded, and which are kept.
-mod refinement;
+//! The multipliers that a row of the basis inverse suggests: which are kept.
 mod weighing;
 
-pub use refinement::error_bounds;
 pub use weighing::Multiplier;
 pub use weighing::Spread;
 pub use weighing::multiplier_at;

@@ -7,9 +7,9 @@ ghost use lib.Ieee.{nan};
 ghost use Rattle.doubles.specs.Compare.{absolute};
 ghost use Rattle.row_questions.specs.Rows.{slackOf};
 ghost use Rattle.multipliers.specs.Multipliers.{needsInfiniteSide, signed, spreads, weighed};
-ghost use Rattle.multipliers.specs.Refinement.{rhoAt};
+ghost use Rattle.refinement_error.specs.Refinement.{rhoAt};
 use cdouble::CDouble;
-use doubles::abs;
+use double_bits::abs;
 
 /// A row's multiplier: dropped because it is within its error of zero, dropped otherwise, or kept.
 pub enum Multiplier {

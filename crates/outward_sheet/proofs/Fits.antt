@@ -12,10 +12,10 @@ use Rattle.cdouble.proofs.Contracts.{when-true, when-false}
 use Rattle.questions.specs.Limits.{mostRows, mostStructurals}
 use Rattle.questions.specs.Flags.{isSet}
 use Rattle.sheet.specs.Sheet.{Sheet, variables}
-use Rattle.sheet.specs.Answers.{Accepted, firstNo}
-use Rattle.sheet.proofs.Accepted.{all-yes, sizes-hold}
-use Rattle.sheet.proofs.Consequences.{by-row, by-variable}
-use Rattle.edges.specs.Model.{modelOf}
+use Rattle.sheet_answers.specs.Answers.{Accepted, firstNo}
+use Rattle.sheet_answers.proofs.Accepted.{all-yes, sizes-hold}
+use Rattle.sheet_answers.proofs.Consequences.{by-row, by-variable}
+use Rattle.variable_bounds.specs.Model.{modelOf}
 use Rattle.edges.specs.Edges.{leavingVariable}
 use Rattle.edges.proofs.Laws.{readable}
 use Rattle.certificate.specs.System.{System, system, systemOf, multiplierAt}

@@ -16,7 +16,7 @@ use Rattle.questions.specs.Places.{allBelow}
 use Rattle.multipliers.specs.declared.weighing.Multiplier.{Multiplier}
 use Rattle.multipliers.specs.declared.weighing.Multiplier.the-variants.{Zeroed, Dropped, Kept}
 use Rattle.certificate.specs.System.{System, multiplierAt}
-use Rattle.edges.specs.Model.{Model}
+use Rattle.variable_bounds.specs.Model.{Model}
 use Rattle.gaps.specs.Rows.{Rows, Ranges, KeptRows, finiteParts, rowsIn}
 use Rattle.gaps.specs.Steps.{cl, cu, limitedAt, largest, rightSide, difference, outwardGap}
 use Rattle.coefficients.specs.Ends.{Added}

@@ -4,7 +4,7 @@ use lib.Dec.{T}
 use lib.Ieee.{Float, lt}
 use Rattle.cdouble.specs.Compensated.{plusZero}
 use Rattle.sheet.specs.Sheet.{Sheet, Doubles}
-use Rattle.sheet.specs.Answers.{Accepted}
+use Rattle.sheet_answers.specs.Answers.{Accepted}
 use Rattle.gaps.specs.Rows.{rowsOf, rangesOf, keptOf}
 use Rattle.gaps.specs.Steps.{outwardOf}
 use Rattle.gaps.specs.ThirdDemand.{NoPoint}

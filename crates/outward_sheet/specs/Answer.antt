@@ -5,7 +5,7 @@ use lib.Dec.{eqb}
 use lib.Ieee.{Float}
 use Rattle.cdouble.specs.Compensated.{plusZero}
 use Rattle.sheet.specs.Sheet.{Sheet}
-use Rattle.sheet.specs.Answers.{firstNo}
+use Rattle.sheet_answers.specs.Answers.{firstNo}
 use Rattle.gaps.specs.Steps.{outwardOf}
 use Rattle.outward_sheet.specs.declared.answer.Outward.{Outward}
 

@@ -3,8 +3,8 @@ use mathlib.Core.List.{List}
 use Prim.Native.Nat.{ℕ, _+_, _≤_, _<_}
 use lib.Ieee.{Float}
 use Rattle.questions.specs.Limits.{mostRows, mostStructurals}
-use Rattle.edges.specs.Model.{Model}
-use Rattle.edges.specs.Reads.{Readable}
+use Rattle.variable_bounds.specs.Model.{Model}
+use Rattle.widening_rooms.specs.Reads.{Readable}
 use Rattle.certificate.specs.System.{System}
 use Rattle.coefficients.specs.Reads.{RowRead, RowsFit}
 

@@ -4,17 +4,17 @@ ghost use lib.Dec.{T};
 ghost use lib.Ieee.{lt};
 ghost use Rattle.cdouble.specs.Compensated.{plusZero};
 ghost use Rattle.sheet.specs.Sheet.{sheet};
-ghost use Rattle.sheet.specs.Answers.{Accepted};
+ghost use Rattle.sheet_answers.specs.Answers.{Accepted};
 ghost use Rattle.gaps.specs.Rows.{rangesOf, rowsOf};
 ghost use Rattle.gaps.specs.Steps.{outwardOf};
 ghost use Rattle.gaps.specs.ThirdDemand.{NoPoint};
 ghost use Rattle.outward_sheet.specs.Answer.{outwardAnswer};
 use crate::reckoning::outward_gap;
-use multipliers::error_bounds;
+use refinement_error::error_bounds;
+use refusal_numbers::number_of;
 use sheet::Outputs;
 use sheet::Sizes;
-use sheet::first_no;
-use sheet::number_of;
+use sheet_answers::first_no;
 use variable_kinds::leaving_variable;
 
 /// The number of the first question whose answer is no, or 0 and the outward gap.

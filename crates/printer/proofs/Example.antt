@@ -3,7 +3,7 @@ use mathlib.Core.Path.{_≡_, refl}
 use mathlib.Core.Bool.{true}
 use lib.Ieee.{ofBits, toBits, binary64}
 use Rattle.printer.specs.declared.Lines.{Lines}
-use Rattle.text_items.specs.Text.{bytes}
+use Rattle.text_words.specs.Text.{bytes}
 use Rattle.stored_text.specs.Digits.{digits, digitCount}
 use Rattle.printer.specs.Answer.{line, refusalLine, nineLines, answerText}
 

@@ -9,7 +9,7 @@ use borrow.Author.Tests.{le-leb, lt-leb}
 use lib.Dec.{eqb}
 use lib.ListN.{length, take, length-append}
 use Rattle.printer.specs.declared.Lines.{Lines}
-use Rattle.text_items.specs.Text.{bytes}
+use Rattle.text_words.specs.Text.{bytes}
 use Rattle.stored_text.specs.Digits.{hexadecimal, decimal}
 use Rattle.stored_text.specs.Stored.{Stored}
 use Rattle.printer.specs.Answer.{line, yesOrNo, refusalLine, nineLines, answerText, writtenIfFits}

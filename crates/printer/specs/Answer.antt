@@ -6,7 +6,7 @@ use lib.Dec.{leb, eqb}
 use lib.ListN.{length}
 use lib.Seq.{sets}
 use Rattle.printer.specs.declared.Lines.{Lines}
-use Rattle.text_items.specs.Text.{bytes}
+use Rattle.text_words.specs.Text.{bytes}
 use Rattle.stored_text.specs.Digits.{hexadecimal, decimal}
 
 -- "every line ended by a newline byte": a line's opening, its value, and its end

@@ -3,7 +3,7 @@ ghost use mathlib.Core.Path.{_≡_};
 ghost use lib.ListN.{length};
 ghost use Rattle.questions.specs.Places.{allBelow};
 ghost use Rattle.questions.specs.Questions.{allFinite, allPlain, boundsFine, leavingRowFine, plain, productFiniteAt, rangeFine, tolerancesFine};
-use doubles::is_finite;
+use double_bits::is_finite;
 
 /// The least pattern with the sign set, that of -0.
 const SIGN: u64 = 0x8000_0000_0000_0000;

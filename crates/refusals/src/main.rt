@@ -12,10 +12,10 @@
 // A slice goes by its place among the slices that `first_no` takes. After them comes one that is not handed over: the
 // lengths of the others, and the numbers of the sheet. A line of any other form counts as a case that differs.
 ghost use Prim.Native.Nat.{_+_, _≤_};
+use refusal_numbers::number_of;
 use sheet::Outputs;
 use sheet::Sizes;
-use sheet::first_no;
-use sheet::number_of;
+use sheet_answers::first_no;
 use tables::Value;
 use tables::count;
 use tables::double_of;

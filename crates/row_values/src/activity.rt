@@ -3,7 +3,7 @@ ghost use mathlib.Core.Path.{_≡_};
 ghost use Prim.Native.Nat.{_≤_};
 ghost use lib.ListN.{length};
 ghost use Rattle.row_values.specs.Activity.{rowActivity, rowTerms, slackRoom, withEntry};
-use doubles::abs;
+use double_bits::abs;
 use tolerances::trimmed_room;
 
 /// The sum of a row's terms, and the magnitude that it was computed from.

@@ -11,18 +11,21 @@ use borrow.Author.Tests.{eq-eqb, eqb-true}
 use Rattle.cdouble.specs.Compensated.{plusZero, value}
 use Rattle.sheet.specs.Sheet.{Sheet, variables}
 use Rattle.sheet.specs.Lengths.{lengthsFit, lengthsFine}
-use Rattle.sheet.specs.Answers.{Accepted, ask, firstNo}
-use Rattle.sheet.proofs.Accepted.{all-yes}
-use Rattle.edges.specs.Model.{Model, modelOf}
-use Rattle.edges.specs.Edges.{edge, leavingVariable, wideningRoom}
+use Rattle.sheet_answers.specs.Answers.{Accepted, ask, firstNo}
+use Rattle.sheet_answers.proofs.Accepted.{all-yes}
+use Rattle.variable_bounds.specs.Model.{Model, modelOf}
+use Rattle.edges.specs.Edges.{edge, leavingVariable}
+use Rattle.widening_rooms.specs.Rooms.{wideningRoom}
 use Rattle.certificate.specs.Certificate.{Certificate}
 use Rattle.certificate.specs.System.{systemOf}
-use Rattle.walk.specs.declared.steps.Coefficient.{Coefficient}
-use Rattle.walk.specs.declared.steps.Walk.{Walk}
-use Rattle.walk.specs.declared.steps.Walked.{Walked}
-use Rattle.walk.specs.Walk.{coefficientAt, onward, step, walkOver}
+use Rattle.walk_states.specs.declared.steps.Coefficient.{Coefficient}
+use Rattle.walk_states.specs.declared.steps.Walk.{Walk}
+use Rattle.walk_states.specs.declared.steps.Walked.{Walked}
+use Rattle.walk_step.specs.Step.{coefficientAt, step}
+use Rattle.walk.specs.Walk.{onward, walkOver}
 use Rattle.judgement.specs.declared.gap.Proof.{Proof}
-use Rattle.judgement.specs.Judgement.{cutAt, judged, judgement, leavingSlackCut}
+use Rattle.slack_cut.specs.Cut.{cutAt, leavingSlackCut}
+use Rattle.judgement.specs.Judgement.{judged, judgement}
 use Rattle.kept.specs.Kept.{Lent, after, certificateOf, filledIn, kept, proofOf}
 use Rattle.gaps.specs.Rows.{Ranges, keptOf, rangesOf, rowsOf}
 use Rattle.gaps.specs.Steps.{outwardGap, outwardOf}

@@ -1,23 +1,12 @@
-//! What is asked of the sheet, in document 01's order, and the answer.
+//! What is asked of the sheet's sizes and lengths, and the answers.
 ghost use mathlib.Core.Path.{_≡_};
 ghost use Prim.Native.Nat.{_≤_};
-ghost use Rattle.sheet.specs.Sheet.{sheet};
 ghost use Rattle.questions.specs.Limits.{mostRows, mostStructurals};
 ghost use Rattle.sheet.specs.Lengths.{lengthsFit, outputsFit, rowsFit, variablesFit};
 ghost use Rattle.questions.specs.Questions.{sizesFine};
-ghost use Rattle.sheet.specs.Answers.{firstNo, numberOf};
-use place_questions::basis_fine;
-use place_questions::widened_fine;
 use questions::MOST_ENTRIES;
 use questions::MOST_ROWS;
 use questions::MOST_STRUCTURALS;
-use questions::all_finite;
-use questions::bounds_fine;
-use questions::leaving_row_fine;
-use questions::tolerances_fine;
-use row_questions::columns_fine;
-use row_questions::entries_fine;
-use row_questions::starts_fine;
 
 /// How many rows, structural variables and entries there are.
 pub struct Sizes {
@@ -33,42 +22,6 @@ pub struct Outputs {
     pub magnitudes: usize,
     pub terms: usize,
     pub errors: usize,
-}
-
-/// Which question refuses the sheet.
-pub enum Refusal {
-    None,
-    Sizes,
-    Lengths,
-    RowStarts,
-    Columns,
-    Entries,
-    Bounds,
-    Tolerances,
-    Basis,
-    Values,
-    Widened,
-    LeavingRow,
-}
-
-/// Document 01's number of a refusal.
-pub fn number_of(refusal: Refusal) -> u32
-    ensures { λ r. ⌜ r ≡ numberOf refusal ⌝ }
-{
-    match refusal {
-        Refusal::None => 0,
-        Refusal::Sizes => 2,
-        Refusal::Lengths => 3,
-        Refusal::RowStarts => 4,
-        Refusal::Columns => 5,
-        Refusal::Entries => 6,
-        Refusal::Bounds => 7,
-        Refusal::Tolerances => 8,
-        Refusal::Basis => 9,
-        Refusal::Values => 10,
-        Refusal::Widened => 11,
-        Refusal::LeavingRow => 12,
-    }
 }
 
 /// The second question.
@@ -141,7 +94,7 @@ fn outputs_fit(count: usize, outputs: Outputs) -> bool
 }
 
 /// The third question.
-fn lengths_fine(
+pub fn lengths_fine(
     sizes: Sizes,
     outputs: Outputs,
     starts: &[usize],
@@ -195,93 +148,4 @@ fn lengths_fine(
         & (integer.len() == structurals)
         & (widened_ups.len() == widened_vars.len())
         & outputs_fit(count, outputs)
-}
-
-/// The first question, from the second on, whose answer is no.
-pub fn first_no(
-    sizes: Sizes,
-    feasibility: f64,
-    checked: u8,
-    leaving_row: usize,
-    leaving_up: u8,
-    outputs: Outputs,
-    starts: &[usize],
-    columns: &[usize],
-    entries: &[f64],
-    right_sides: &[f64],
-    scales: &[f64],
-    integer: &[u8],
-    mins: &[f64],
-    maxs: &[f64],
-    low_tolerances: &[f64],
-    high_tolerances: &[f64],
-    basic: &[u8],
-    places: &[usize],
-    values: &[f64],
-    widened_vars: &[usize],
-    widened_ups: &[u8],
-    rho_hi: &[f64],
-    rho_lo: &[f64],
-    second: &[f64],
-) -> Refusal
-    ensures { λ r. ⌜ numberOf r ≡ firstNo (sheet sizes feasibility checked «leaving_row» «leaving_up» outputs (now (starts .entry)) (now (columns .entry)) (now (entries .entry)) (now («right_sides» .entry)) (now (scales .entry)) (now (integer .entry)) (now (mins .entry)) (now (maxs .entry)) (now («low_tolerances» .entry)) (now («high_tolerances» .entry)) (now (basic .entry)) (now (places .entry)) (now (values .entry)) (now («widened_vars» .entry)) (now («widened_ups» .entry)) (now («rho_hi» .entry)) (now («rho_lo» .entry)) (now (second .entry))) ⌝ }
-{
-    let rows = sizes.rows;
-    let structurals = sizes.structurals;
-    let entry_count = sizes.entries;
-    if !sizes_fine(sizes) {
-        return Refusal::Sizes;
-    }
-    if !lengths_fine(
-        sizes,
-        outputs,
-        starts,
-        columns,
-        entries,
-        right_sides,
-        scales,
-        integer,
-        mins,
-        maxs,
-        low_tolerances,
-        high_tolerances,
-        basic,
-        places,
-        values,
-        widened_vars,
-        widened_ups,
-        rho_hi,
-        rho_lo,
-        second,
-    ) {
-        return Refusal::Lengths;
-    }
-    if !starts_fine(rows, entry_count, starts) {
-        return Refusal::RowStarts;
-    }
-    if !columns_fine(rows, structurals, starts, columns) {
-        return Refusal::Columns;
-    }
-    if !entries_fine(rows, starts, entries, right_sides) {
-        return Refusal::Entries;
-    }
-    if !bounds_fine(mins, maxs) {
-        return Refusal::Bounds;
-    }
-    if !tolerances_fine(feasibility, scales, low_tolerances, high_tolerances) {
-        return Refusal::Tolerances;
-    }
-    if !basis_fine(rows, basic, places) {
-        return Refusal::Basis;
-    }
-    if !all_finite(values) {
-        return Refusal::Values;
-    }
-    if !widened_fine(structurals + rows, widened_vars, widened_ups) {
-        return Refusal::Widened;
-    }
-    if !leaving_row_fine(rows, leaving_row) {
-        return Refusal::LeavingRow;
-    }
-    Refusal::None
 }

@@ -8,9 +8,15 @@ use lib.Ieee.{Float, binary64, ofBits}
 use Rattle.sheet.specs.Sheet.{Sheet, sheet}
 use Rattle.repeats.specs.Counted.{run, after, gather}
 use Rattle.repeats.specs.Chained.{chain, chainEnd}
-use Rattle.text_items.specs.Text.{bytes}
-use Rattle.text_items.specs.Items.{digits, atLeastOne, number, double, byteAt, expect, either, doubleThen, countThen}
-use Rattle.text_lines.specs.Lines.{heading, placeIf, variableFrom, varLine, slackLine, lineAt, rowHead, pair, widenedLine, multipliersLine, secondIf, rhoLine, leaveLine}
+use Rattle.text_words.specs.Text.{bytes}
+use Rattle.text_numbers.specs.Numbers.{digits, atLeastOne, number, double}
+use Rattle.text_words.specs.Words.{byteAt, expect, either}
+use Rattle.text_items.specs.Items.{doubleThen, countThen}
+use Rattle.text_heading.specs.Lines.{heading}
+use Rattle.text_variable_line.specs.Lines.{placeIf, variableFrom, varLine, slackLine, lineAt}
+use Rattle.text_rows.specs.Lines.{rowHead, pair}
+use Rattle.text_sides.specs.Lines.{widenedLine, leaveLine}
+use Rattle.text_multipliers.specs.Lines.{multipliersLine, secondIf, rhoLine}
 use Rattle.text_lists.specs.Rows.{pairsReached, rowPairs, rowLine}
 use Rattle.text_lists.specs.Widened.{widenedReached}
 use Rattle.sheet_text.specs.Parts.{structuralLinesIn, variableLinesIn, rowsFrom, rowLinesIn, pairsIn, rowsReachedIn, widenedLinesIn, widenedReachedIn, multipliersIn, rhoLinesIn, leaveIn}

@@ -7,10 +7,11 @@ use native.Mathlib.Nat.{pow-succ', mul-assoc, one-le-pow, mul-le-mul-left, lt-of
 use native.Mathlib.Omega.{arith}
 use lib.ListN.{getD}
 use borrow.Author.Tests.{lt-leb, le-leb}
-use Rattle.text_items.specs.Items.{digitOf, digits, atLeastOne, number, count, countThen}
-use Rattle.text_items.specs.declared.Count.{Count}
-use Rattle.text_lines.specs.declared.heading.Heading.{Heading}
-use Rattle.text_lines.specs.Lines.{heading}
+use Rattle.text_numbers.specs.Numbers.{digitOf, digits, atLeastOne, number, count}
+use Rattle.text_items.specs.Items.{countThen}
+use Rattle.text_numbers.specs.declared.Count.{Count}
+use Rattle.text_heading.specs.declared.heading.Heading.{Heading}
+use Rattle.text_heading.specs.Lines.{heading}
 
 below-or-not : (a b : ℕ) → (a < b) ⊎ (b ≤ a)
 below-or-not a zero = inr (omega arith)

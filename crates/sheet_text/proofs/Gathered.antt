@@ -2,10 +2,12 @@
 use mathlib.Core.Path.{_≡_}
 use mathlib.Core.List.{List}
 use Prim.Native.Nat.{ℕ, _+_}
-use Rattle.text_items.specs.declared.Choice.{Choice}
-use Rattle.text_lines.specs.declared.heading.Heading.{Heading}
-use Rattle.text_lines.specs.declared.sided_lines.LeaveLine.{LeaveLine}
-use Rattle.text_lines.specs.Lines.{heading, multipliersLine, leaveLine}
+use Rattle.text_words.specs.declared.Choice.{Choice}
+use Rattle.text_heading.specs.declared.heading.Heading.{Heading}
+use Rattle.text_sides.specs.declared.sided_lines.LeaveLine.{LeaveLine}
+use Rattle.text_heading.specs.Lines.{heading}
+use Rattle.text_multipliers.specs.Lines.{multipliersLine}
+use Rattle.text_sides.specs.Lines.{leaveLine}
 use Rattle.text_variables.specs.Variables.{variableLines, variableLinesEnd}
 use Rattle.text_lists.specs.declared.widened_list.Reached.{Reached}
 use Rattle.text_lists.specs.Rows.{rowLines, rowsReached, rowsPairs}

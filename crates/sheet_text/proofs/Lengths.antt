@@ -14,10 +14,11 @@ use Rattle.questions.specs.Questions.{sizesFine}
 use Rattle.sheet.specs.declared.answers.Outputs.{Outputs}
 use Rattle.sheet.specs.Sheet.{Sheet}
 use Rattle.sheet.specs.Lengths.{rowsFit, variablesFit, outputsFit, lengthsFit, lengthsFine}
-use Rattle.sheet.proofs.Accepted.{SizesHold, sizes-hold, RowsHold, VariablesHold}
+use Rattle.sheet_answers.proofs.Accepted.{SizesHold, sizes-hold, RowsHold, VariablesHold}
 use Rattle.repeats.proofs.Runs.{run-length}
-use Rattle.text_lines.specs.declared.heading.Heading.{Heading}
-use Rattle.text_lines.specs.Lines.{heading, lineAt}
+use Rattle.text_heading.specs.declared.heading.Heading.{Heading}
+use Rattle.text_heading.specs.Lines.{heading}
+use Rattle.text_variable_line.specs.Lines.{lineAt}
 use Rattle.text_variables.specs.Variables.{afterVariable}
 use Rattle.text_lists.specs.declared.widened_list.Reached.{Reached}
 use Rattle.text_lists.specs.Rows.{rowAt, afterRow}

@@ -9,10 +9,10 @@ use lib.ListN.{length, getD, take}
 use Rattle.questions.proofs.All.{and-left, and-right}
 use Rattle.repeats.specs.Filled.{column, filledFrom}
 use Rattle.repeats.proofs.Fronts.{whole-front, behind-first}
-use Rattle.text_items.specs.Items.{mostBytes}
-use Rattle.text_lines.specs.declared.variable_lines.VariableLine.{VariableLine}
-use Rattle.text_lines.specs.declared.row_items.Pair.{Pair}
-use Rattle.text_lines.specs.declared.multiplier_lines.RhoLine.{RhoLine}
+use Rattle.text_words.specs.Words.{mostBytes}
+use Rattle.text_variable_line.specs.declared.variable_lines.VariableLine.{VariableLine}
+use Rattle.text_rows.specs.declared.row_items.Pair.{Pair}
+use Rattle.text_multipliers.specs.declared.multiplier_lines.RhoLine.{RhoLine}
 use Rattle.text_lists.specs.declared.row_lists.RowLine.{RowLine}
 use Rattle.sheet_text.specs.declared.Read.{Read}
 use Rattle.sheet_text.specs.Parts.{structuralLinesIn, variableLinesIn, rowLinesIn, pairsIn, rhoLinesIn}

@@ -4,11 +4,11 @@ use mathlib.Core.List.{List}
 use Prim.Native.Nat.{ℕ}
 use lib.Dec.{leb, eqb}
 use lib.ListN.{length}
-use Rattle.text_items.specs.Items.{mostBytes}
-use Rattle.text_items.specs.declared.Choice.{Choice}
-use Rattle.text_lines.specs.declared.heading.Heading.{Heading}
-use Rattle.text_lines.specs.declared.sided_lines.LeaveLine.{LeaveLine}
-use Rattle.text_lines.specs.Lines.{heading}
+use Rattle.text_words.specs.Words.{mostBytes}
+use Rattle.text_words.specs.declared.Choice.{Choice}
+use Rattle.text_heading.specs.declared.heading.Heading.{Heading}
+use Rattle.text_sides.specs.declared.sided_lines.LeaveLine.{LeaveLine}
+use Rattle.text_heading.specs.Lines.{heading}
 use Rattle.text_lists.specs.declared.widened_list.Reached.{Reached}
 use Rattle.sheet_text.specs.declared.Read.{Read}
 use Rattle.sheet_text.specs.Parts.{rowsReachedIn, widenedReachedIn, multipliersIn, leaveIn}

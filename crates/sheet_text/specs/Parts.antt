@@ -1,14 +1,16 @@
 -- The parts of a text, "lines in the example's order": document 01, "The sheet". Each begins where the one before it ends. Assumes nothing.
 use mathlib.Core.List.{List}
 use Prim.Native.Nat.{ℕ, _+_}
-use Rattle.text_items.specs.declared.Choice.{Choice}
-use Rattle.text_lines.specs.declared.heading.Heading.{Heading}
-use Rattle.text_lines.specs.declared.variable_lines.VariableLine.{VariableLine}
-use Rattle.text_lines.specs.declared.row_items.Pair.{Pair}
-use Rattle.text_lines.specs.declared.sided_lines.WidenedLine.{WidenedLine}
-use Rattle.text_lines.specs.declared.sided_lines.LeaveLine.{LeaveLine}
-use Rattle.text_lines.specs.declared.multiplier_lines.RhoLine.{RhoLine}
-use Rattle.text_lines.specs.Lines.{heading, multipliersLine, leaveLine}
+use Rattle.text_words.specs.declared.Choice.{Choice}
+use Rattle.text_heading.specs.declared.heading.Heading.{Heading}
+use Rattle.text_variable_line.specs.declared.variable_lines.VariableLine.{VariableLine}
+use Rattle.text_rows.specs.declared.row_items.Pair.{Pair}
+use Rattle.text_sides.specs.declared.sided_lines.WidenedLine.{WidenedLine}
+use Rattle.text_sides.specs.declared.sided_lines.LeaveLine.{LeaveLine}
+use Rattle.text_multipliers.specs.declared.multiplier_lines.RhoLine.{RhoLine}
+use Rattle.text_heading.specs.Lines.{heading}
+use Rattle.text_multipliers.specs.Lines.{multipliersLine}
+use Rattle.text_sides.specs.Lines.{leaveLine}
 use Rattle.text_variables.specs.Variables.{variableLines, variableLinesEnd}
 use Rattle.text_lists.specs.declared.widened_list.Reached.{Reached}
 use Rattle.text_lists.specs.declared.row_lists.RowLine.{RowLine}

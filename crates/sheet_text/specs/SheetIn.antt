@@ -5,10 +5,10 @@ use Rattle.questions.specs.Limits.{mostRows, mostStructurals}
 use Rattle.sheet.specs.declared.answers.Sizes.{Sizes}
 use Rattle.sheet.specs.declared.answers.Outputs.{Outputs}
 use Rattle.sheet.specs.Sheet.{Sheet, sheet}
-use Rattle.text_lines.specs.declared.variable_lines.VariableLine.{VariableLine}
-use Rattle.text_lines.specs.declared.row_items.Pair.{Pair}
-use Rattle.text_lines.specs.declared.sided_lines.WidenedLine.{WidenedLine}
-use Rattle.text_lines.specs.declared.multiplier_lines.RhoLine.{RhoLine}
+use Rattle.text_variable_line.specs.declared.variable_lines.VariableLine.{VariableLine}
+use Rattle.text_rows.specs.declared.row_items.Pair.{Pair}
+use Rattle.text_sides.specs.declared.sided_lines.WidenedLine.{WidenedLine}
+use Rattle.text_multipliers.specs.declared.multiplier_lines.RhoLine.{RhoLine}
 use Rattle.text_lists.specs.declared.row_lists.RowLine.{RowLine}
 use Rattle.sheet_text.specs.declared.Read.{Read}
 use Rattle.sheet_text.specs.Parts.{structuralLinesIn, variableLinesIn, rowLinesIn, pairsIn, widenedLinesIn, rhoLinesIn}

@@ -1,21 +1,21 @@
 //! The sheet as a text: whether it follows the form of document 01, and the sheet that it says, read into lent slices.
 ghost use mathlib.Core.Path.{_≡_};
 ghost use Rattle.repeats.specs.Filled.{column, filledFrom};
-ghost use Rattle.text_lines.specs.declared.variable_lines.VariableLine.{VariableLine};
-ghost use Rattle.text_lines.specs.declared.row_items.Pair.{Pair};
-ghost use Rattle.text_lines.specs.declared.sided_lines.WidenedLine.{WidenedLine};
-ghost use Rattle.text_lines.specs.declared.multiplier_lines.RhoLine.{RhoLine};
+ghost use Rattle.text_variable_line.specs.declared.variable_lines.VariableLine.{VariableLine};
+ghost use Rattle.text_rows.specs.declared.row_items.Pair.{Pair};
+ghost use Rattle.text_sides.specs.declared.sided_lines.WidenedLine.{WidenedLine};
+ghost use Rattle.text_multipliers.specs.declared.multiplier_lines.RhoLine.{RhoLine};
 ghost use Rattle.text_lists.specs.declared.row_lists.RowLine.{RowLine};
 ghost use Rattle.sheet_text.specs.Parts.{structuralLinesIn, variableLinesIn, rowLinesIn, pairsIn, widenedLinesIn, rhoLinesIn};
 ghost use Rattle.sheet_text.specs.Form.{readIn, formMet};
-use text_items::MOST_BYTES;
-use text_lines::heading_lines;
-use text_lines::leave_line;
-use text_lines::multipliers_line;
+use text_heading::heading_lines;
 use text_lists::read_multipliers;
 use text_lists::read_rows;
 use text_lists::read_widened;
+use text_multipliers::multipliers_line;
+use text_sides::leave_line;
 use text_variables::read_variables;
+use text_words::MOST_BYTES;
 
 /// What a text says apart from its lists.
 pub struct Read {

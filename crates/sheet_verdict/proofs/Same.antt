@@ -1,13 +1,15 @@
 -- The verdict on what a search of the records found is the verdict on the records. Assumes nothing.
-use mathlib.Core.Path.{_≡_, refl, sym, subst, _∙_}
+use mathlib.Core.Path.{_≡_, refl, ap, sym, subst, _∙_}
 use mathlib.Core.Bool.{true}
 use mathlib.Core.List.{List}
 use Prim.Native.Nat.{ℕ, _+_, _≤_}
+use lib.ListN.{take}
 use borrow.Author.Tests.{le-leb}
 use Rattle.questions.specs.Limits.{mostRows, mostStructurals}
 use Rattle.place_questions.specs.Questions.{widenedFine}
+use Rattle.variable_kinds.specs.Variables.{isWidened}
 use Rattle.sheet.specs.Sheet.{Sheet, variables}
-use Rattle.sheet.proofs.Accepted.{sizes-hold}
+use Rattle.sheet_answers.proofs.Accepted.{sizes-hold}
 use Rattle.kept.specs.Kept.{Lent, after}
 use Rattle.verdict.specs.declared.Verdict.{Verdict}
 use Rattle.verdict.specs.Verdict.{verdict}
@@ -17,7 +19,9 @@ use Rattle.widened_records.specs.declared.Widened.{Widened}
 use Rattle.widened_records.specs.Records.{countOf, upsOf, variablesOf}
 use Rattle.widened_records.specs.Found.{foundIn}
 use Rattle.widened_records.specs.Listed.{foundUps, foundVariables}
+use Rattle.many_widened.specs.Fewest.{mostWidened}
 use Rattle.widened_records.proofs.Counts.{count-few}
+use Rattle.widened_records.proofs.Front.{front-fine, front-whole}
 use Rattle.widened_records.proofs.Listed.{listed-fine, listed-held, listed-sided, records-sided}
 use Rattle.same_widened.specs.Interchangeable.{Interchangeable, hasSize, withWidened}
 use Rattle.same_widened.proofs.SameWidened.{same-after, same-declined, same-verdict}
@@ -33,8 +37,11 @@ module _ (s : Sheet) (list : List Widened) where
   abbrev count : ℕ
   count = countOf (s .rows) (s .structurals)
 
+  abbrev front : List Widened
+  front = take mostWidened list
+
   abbrev found : Found
-  found = foundIn count list
+  found = foundIn count front
 
   few : count ≤ mostStructurals + mostRows
   few = count-few (s .rows) (s .structurals)
@@ -47,10 +54,12 @@ module _ (s : Sheet) (list : List Widened) where
         sided′ = listed-sided count found;
         fine = λ size.
             subst (λ (n : ℕ). widenedFine n (variablesOf list) (upsOf list) ≡ widenedFine n (foundVariables count found) (foundUps count found))
-            (count-is s size) (listed-fine count list few);
-        held = λ size fine.
-            listed-held count list few
-            (subst (λ (n : ℕ). widenedFine n (variablesOf list) (upsOf list) ≡ true) (sym (count-is s size)) fine);
+            (count-is s size) (sym (front-fine count list few) ∙ listed-fine count front few);
+        held = λ size fine v up.
+            let passes : widenedFine count (variablesOf list) (upsOf list) ≡ true =
+            subst (λ (n : ℕ). widenedFine n (variablesOf list) (upsOf list) ≡ true) (sym (count-is s size)) fine in
+            sym (ap (λ (items : List Widened). isWidened (variablesOf items) (upsOf items) v up) (front-whole count list few passes))
+            ∙ listed-held count front few (front-fine count list few ∙ passes) v up;
       }
 
   pub entry-says : (before : Lent) {f : Found} {now : Lent} {r : Verdict} → f ≡ found

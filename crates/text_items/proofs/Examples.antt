@@ -1,8 +1,10 @@
 -- What some items read as, by computation. Assumes nothing.
 use mathlib.Core.Path.{_≡_, refl}
 use lib.Ieee.{nan, binary64, ofBits}
-use Rattle.text_items.specs.Text.{bytes}
-use Rattle.text_items.specs.Items.{stop, digits, atLeastOne, number, double, count, byteAt, expect, doubleThen, countThen}
+use Rattle.text_words.specs.Text.{bytes}
+use Rattle.text_words.specs.Words.{stop, byteAt, expect}
+use Rattle.text_numbers.specs.Numbers.{digits, atLeastOne, number, double, count}
+use Rattle.text_items.specs.Items.{doubleThen, countThen}
 
 -- the digits of a double are of its lowest bits
 one-digit : double (bytes "A ") 0 ≡ record { value = ofBits binary64 10; next = 1 }

@@ -1,12 +1,14 @@
 -- A refusal runs through all later items: at `stop` nothing is read, and what is read there ends there. Assumes nothing.
-use mathlib.Core.Path.{_≡_, refl}
+use mathlib.Core.Path.{_≡_}
 use mathlib.Core.List.{List}
 use Prim.Native.Nat.{ℕ, suc, _≤_}
 use native.Mathlib.Omega.{arith}
 use lib.ListN.{length, getD, List·getD-eq-default}
 use borrow.Author.Tests.{le-leb}
-use Rattle.text_items.specs.Items.{mostBytes, stop, digits, atLeastOne, number, double, count, either, doubleThen, countThen}
-use Rattle.text_items.proofs.Words.{expect-stuck}
+use Rattle.text_words.specs.Words.{mostBytes, stop, either}
+use Rattle.text_numbers.specs.Numbers.{digits, atLeastOne, number, double, count}
+use Rattle.text_items.specs.Items.{doubleThen, countThen}
+use Rattle.text_words.proofs.Words.{expect-stuck}
 
 module _ (text : List ℕ) (fits : length text ≤ mostBytes) where
   nothing-stands : getD text stop 0 ≡ 0

@@ -6,9 +6,10 @@ use native.Mathlib.Omega.{arith}
 use lib.ListN.{length}
 use Rattle.repeats.specs.Chained.{chainEnd}
 use Rattle.repeats.proofs.Gathers.{gather-counts}
-use Rattle.text_items.specs.Items.{mostBytes}
-use Rattle.text_lines.specs.declared.row_items.RowHead.{RowHead}
-use Rattle.text_lines.specs.Lines.{noWidened, widenedLine, rowHead, rowEnd}
+use Rattle.text_words.specs.Words.{mostBytes}
+use Rattle.text_rows.specs.declared.row_items.RowHead.{RowHead}
+use Rattle.text_sides.specs.Lines.{noWidened, widenedLine}
+use Rattle.text_rows.specs.Lines.{rowHead, rowEnd}
 use Rattle.text_lists.specs.declared.widened_list.Reached.{Reached}
 use Rattle.text_lists.specs.declared.row_lists.RowLine.{RowLine}
 use Rattle.text_lists.specs.Widened.{afterWidened, widenedLines, widenedReached}

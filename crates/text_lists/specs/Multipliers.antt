@@ -2,8 +2,8 @@
 use mathlib.Core.List.{List}
 use Prim.Native.Nat.{ℕ}
 use Rattle.repeats.specs.Counted.{run, after}
-use Rattle.text_lines.specs.declared.multiplier_lines.RhoLine.{RhoLine}
-use Rattle.text_lines.specs.Lines.{rhoLine}
+use Rattle.text_multipliers.specs.declared.multiplier_lines.RhoLine.{RhoLine}
+use Rattle.text_multipliers.specs.Lines.{rhoLine}
 
 -- the position after a rho line
 abbrev pub afterRho : RhoLine → ℕ

@@ -4,10 +4,10 @@ use Prim.Native.Nat.{ℕ, _+_, _-_}
 use lib.ListN.{length}
 use Rattle.repeats.specs.Counted.{run, after, gather}
 use Rattle.repeats.specs.Chained.{chain, chainEnd}
-use Rattle.text_items.specs.Items.{mostBytes}
-use Rattle.text_lines.specs.declared.row_items.Pair.{Pair}
-use Rattle.text_lines.specs.declared.row_items.RowHead.{RowHead}
-use Rattle.text_lines.specs.Lines.{noPair, pair, rowHead, rowEnd}
+use Rattle.text_words.specs.Words.{mostBytes}
+use Rattle.text_rows.specs.declared.row_items.Pair.{Pair}
+use Rattle.text_rows.specs.declared.row_items.RowHead.{RowHead}
+use Rattle.text_rows.specs.Lines.{noPair, pair, rowHead, rowEnd}
 use Rattle.text_lists.specs.declared.widened_list.Reached.{Reached}
 use Rattle.text_lists.specs.declared.row_lists.RowLine.{RowLine}
 

@@ -3,9 +3,9 @@ use mathlib.Core.List.{List}
 use Prim.Native.Nat.{ℕ}
 use lib.ListN.{length}
 use Rattle.repeats.specs.Chained.{chain, chainEnd}
-use Rattle.text_items.specs.Items.{mostBytes}
-use Rattle.text_lines.specs.declared.sided_lines.WidenedLine.{WidenedLine}
-use Rattle.text_lines.specs.Lines.{noWidened, widenedLine}
+use Rattle.text_words.specs.Words.{mostBytes}
+use Rattle.text_sides.specs.declared.sided_lines.WidenedLine.{WidenedLine}
+use Rattle.text_sides.specs.Lines.{noWidened, widenedLine}
 use Rattle.text_lists.specs.declared.widened_list.Reached.{Reached}
 
 -- the position after a widened line

@@ -1,10 +1,10 @@
 //! The multipliers, one for each row.
 ghost use mathlib.Core.Path.{_≡_};
 ghost use Rattle.repeats.specs.Filled.{column};
-ghost use Rattle.text_lines.specs.declared.multiplier_lines.RhoLine.{RhoLine};
+ghost use Rattle.text_multipliers.specs.declared.multiplier_lines.RhoLine.{RhoLine};
 ghost use Rattle.text_lists.specs.Multipliers.{rhoLines, rhoLinesEnd};
 use repeats::put_double;
-use text_lines::rho_line;
+use text_multipliers::rho_line;
 
 /// The rho lines of all rows from a position on, and the position after them. Unchecked, a second correction is +0.
 pub fn read_multipliers(

@@ -2,17 +2,17 @@
 ghost use mathlib.Core.Path.{_≡_};
 ghost use lib.ListN.{set};
 ghost use Rattle.repeats.specs.Filled.{column, filledFrom};
-ghost use Rattle.text_lines.specs.declared.row_items.Pair.{Pair};
+ghost use Rattle.text_rows.specs.declared.row_items.Pair.{Pair};
 ghost use Rattle.text_lists.specs.declared.row_lists.RowLine.{RowLine};
 ghost use Rattle.text_lists.specs.Rows.{pairs, pairsReached, rowPairs, rowLine, rowLines, rowsPairs, rowsReached};
 use crate::widened_list::Reached;
 use repeats::put_count;
 use repeats::put_double;
-use text_items::MOST_BYTES;
-use text_lines::no_pair;
-use text_lines::pair_at;
-use text_lines::row_end;
-use text_lines::row_head;
+use text_rows::no_pair;
+use text_rows::pair_at;
+use text_rows::row_end;
+use text_rows::row_head;
+use text_words::MOST_BYTES;
 
 /// What a row's line says of it.
 pub struct RowLine {

@@ -1,13 +1,13 @@
 //! The widened lines, as many as stand there.
 ghost use mathlib.Core.Path.{_≡_};
 ghost use Rattle.repeats.specs.Filled.{column};
-ghost use Rattle.text_lines.specs.declared.sided_lines.WidenedLine.{WidenedLine};
+ghost use Rattle.text_sides.specs.declared.sided_lines.WidenedLine.{WidenedLine};
 ghost use Rattle.text_lists.specs.Widened.{widenedLines, widenedReached};
 use repeats::put_count;
 use repeats::put_flag;
-use text_items::MOST_BYTES;
-use text_lines::no_widened;
-use text_lines::widened_line;
+use text_sides::no_widened;
+use text_sides::widened_line;
+use text_words::MOST_BYTES;
 
 /// How far a list was read.
 pub struct Reached {

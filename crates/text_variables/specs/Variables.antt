@@ -2,8 +2,8 @@
 use mathlib.Core.List.{List}
 use Prim.Native.Nat.{ℕ}
 use Rattle.repeats.specs.Counted.{run, after}
-use Rattle.text_lines.specs.declared.variable_lines.VariableLine.{VariableLine}
-use Rattle.text_lines.specs.Lines.{lineAt}
+use Rattle.text_variable_line.specs.declared.variable_lines.VariableLine.{VariableLine}
+use Rattle.text_variable_line.specs.Lines.{lineAt}
 
 -- the position after a variable's line
 abbrev pub afterVariable : VariableLine → ℕ

@@ -5,13 +5,13 @@ ghost use Prim.Native.Nat.{_≤_};
 ghost use lib.Dec.{ltb};
 ghost use lib.ListN.{set};
 ghost use Rattle.repeats.specs.Filled.{column};
-ghost use Rattle.text_lines.specs.declared.variable_lines.VariableLine.{VariableLine};
+ghost use Rattle.text_variable_line.specs.declared.variable_lines.VariableLine.{VariableLine};
 ghost use Rattle.text_variables.specs.Variables.{variableLines, variableLinesEnd};
 use repeats::put_count;
 use repeats::put_double;
 use repeats::put_flag;
-use text_lines::VariableLine;
-use text_lines::line_at;
+use text_variable_line::VariableLine;
+use text_variable_line::line_at;
 
 // Whether the i-th variable is integer, stored if it is structural: a slack has no such flag.
 fn store_integer(i: usize, structurals: usize, flag: u8, integer: &mut [u8])

@@ -1,3 +1,2 @@
-pub mod BandEdge
 pub mod Parts
 pub mod Room

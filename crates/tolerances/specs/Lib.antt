@@ -1,2 +1,1 @@
 pub mod Tolerances
-pub mod BandEdge

@@ -1,17 +1,9 @@
-//! The tolerances that the certificate rests on, as the Rust has them, and the edge of a bound's band. Every function takes
-//! every number and asks nothing of its caller.
+//! The tolerances that the certificate rests on, as the Rust has them. Every function takes every number and asks nothing of its
+//! caller.
 ghost use mathlib.Core.Path.{_≡_};
-ghost use lib.Dec.{T};
-ghost use lib.Ieee.{le};
-ghost use lib.Ieee.Scale.{finite};
-ghost use Rattle.cdouble.specs.Compensated.{plusZero};
 ghost use Rattle.tolerances.specs.Tolerances.{impliedSlackError, rowTolerance, slackMargin, slackTol, toward, trimmedRoom};
-ghost use Rattle.tolerances.specs.BandEdge.{bandEdge, IsBandEdge};
-use doubles::abs;
-use doubles::max;
-use doubles::min;
-use doubles::next_down;
-use doubles::next_up;
+use double_bits::max;
+use double_bits::min;
 use std::num::nearest_u64_to_f64;
 
 /// A variable's tolerances at its lower and upper bound.
@@ -74,17 +66,4 @@ pub fn implied_slack_error(slack: f64, magnitude: f64, terms: usize) -> f64
     let n = nearest_u64_to_f64(terms as u64) + 2.0;
     4.0 * BoundTols::UNIT_ROUNDOFF * slack
         + 4.0 * n * n * BoundTols::UNIT_ROUNDOFF * BoundTols::UNIT_ROUNDOFF * magnitude
-}
-
-/// `bound` moved out by `tol`, above it or below, and back by a double where rounding took it too far. The Rust steps back in
-/// a loop, which takes one step at most wherever it ends.
-pub fn band_edge(bound: f64, tol: f64, up: bool) -> f64
-    ensures { λ r. ⌜ (r ≡ bandEdge bound tol up) × (T (finite bound) → T (le plusZero tol) → IsBandEdge bound tol up r) ⌝ }
-{
-    let edge = if up { bound + tol } else { bound - tol };
-    if abs(edge - bound) > tol {
-        if up { next_down(edge) } else { next_up(edge) }
-    } else {
-        edge
-    }
 }

@@ -9,7 +9,7 @@ use lib.Ieee.Fits.{and-r}
 use Rattle.cdouble.specs.Compensated.{plusZero}
 use Rattle.cdouble.proofs.Contracts.{when-true, when-false}
 use Rattle.sheet.specs.Sheet.{Sheet, Doubles}
-use Rattle.sheet.specs.Answers.{firstNo}
+use Rattle.sheet_answers.specs.Answers.{firstNo}
 use Rattle.kept.specs.declared.Kept.{Kept}
 use Rattle.kept.specs.Kept.{Lent, kept, refused, proofOf, filledIn, after}
 use Rattle.kept.proofs.Whole.{accepts, answer-full, answer-refused}

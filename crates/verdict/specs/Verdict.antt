@@ -5,7 +5,7 @@ use lib.Dec.{eqb}
 use lib.Ieee.{Float, lt}
 use Rattle.cdouble.specs.Compensated.{plusZero}
 use Rattle.sheet.specs.Sheet.{Sheet}
-use Rattle.sheet.specs.Answers.{firstNo}
+use Rattle.sheet_answers.specs.Answers.{firstNo}
 use Rattle.kept.specs.declared.Kept.{Kept}
 use Rattle.kept.specs.Kept.{kept, proofOf}
 use Rattle.gaps.specs.Steps.{outwardOf}

@@ -11,10 +11,10 @@ ghost use Rattle.verdict.specs.Verdict.{refusedWith, verdict, withOutwar
 use kept::Kept;
 use kept::weighed;
 use outward_sheet::gap_of;
+use refusal_numbers::number_of;
 use sheet::Outputs;
 use sheet::Sizes;
-use sheet::first_no;
-use sheet::number_of;
+use sheet_answers::first_no;
 
 /// The number of the first question whose answer is no, or 0 and the verdict.
 #[repr(C)]

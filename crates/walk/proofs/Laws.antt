@@ -14,14 +14,16 @@ use Rattle.doubles.specs.Compare.{absolute}
 use Rattle.cdouble.specs.Compensated.{plusZero, value}
 use Rattle.cdouble.proofs.Contracts.{differ, when-true, when-false}
 use Rattle.certificate.specs.Certificate.{Certificate}
-use Rattle.edges.specs.Model.{Model, boundOf}
+use Rattle.variable_bounds.specs.Model.{Model, boundOf}
 use Rattle.edges.specs.Edges.{edge}
-use Rattle.walk.specs.declared.steps.Coefficient.{Coefficient}
-use Rattle.walk.specs.declared.steps.Walk.{Walk}
-use Rattle.walk.specs.declared.steps.End.{End}
-use Rattle.walk.specs.declared.steps.End.the-variants.{Through, Spoilt, Unlimited}
-use Rattle.walk.specs.declared.steps.Walked.{Walked}
-use Rattle.walk.specs.Walk.{atInfinity, coefficientAt, counted, countedAsZero, errorOfZero, onward, step, walkOver, walked}
+use Rattle.walk_states.specs.declared.steps.Coefficient.{Coefficient}
+use Rattle.walk_states.specs.declared.steps.Walk.{Walk}
+use Rattle.walk_states.specs.declared.steps.End.{End}
+use Rattle.walk_states.specs.declared.steps.End.the-variants.{Through, Spoilt, Unlimited}
+use Rattle.walk_states.specs.declared.steps.Walked.{Walked}
+use Rattle.walk_states.specs.States.{atInfinity, counted, countedAsZero, errorOfZero, walked}
+use Rattle.walk_step.specs.Step.{coefficientAt, step}
+use Rattle.walk.specs.Walk.{onward, walkOver}
 
 -- ---- a walk that has ended
 -- how it ended, where it did

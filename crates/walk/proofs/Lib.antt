@@ -1,3 +1,2 @@
-pub mod Ways
 pub mod Laws
 pub mod Turns

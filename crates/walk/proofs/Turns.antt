@@ -13,15 +13,17 @@ use Rattle.cdouble.specs.Compensated.{plusZero, value}
 use Rattle.certificate.specs.Certificate.{Certificate}
 use Rattle.added_row.specs.Added.{Lists}
 use Rattle.certificate.specs.Reads.{Lent}
-use Rattle.edges.specs.Model.{Model, boundOf}
+use Rattle.variable_bounds.specs.Model.{Model, boundOf}
 use Rattle.edges.specs.Edges.{edge}
-use Rattle.walk.specs.declared.steps.Coefficient.{Coefficient}
-use Rattle.walk.specs.declared.steps.Walk.{Walk}
-use Rattle.walk.specs.declared.steps.End.{End}
-use Rattle.walk.specs.declared.steps.End.the-variants.{Through}
-use Rattle.walk.specs.declared.steps.Walked.{Walked}
-use Rattle.walk.specs.Walk.{coefficientAt, counted, countedAsZero, onward, started, step, walkOver, walked}
-use Rattle.walk.specs.Reads.{Small}
+use Rattle.walk_states.specs.declared.steps.Coefficient.{Coefficient}
+use Rattle.walk_states.specs.declared.steps.Walk.{Walk}
+use Rattle.walk_states.specs.declared.steps.End.{End}
+use Rattle.walk_states.specs.declared.steps.End.the-variants.{Through}
+use Rattle.walk_states.specs.declared.steps.Walked.{Walked}
+use Rattle.walk_step.specs.Step.{coefficientAt, step}
+use Rattle.walk_states.specs.States.{counted, countedAsZero, walked}
+use Rattle.walk.specs.Walk.{onward, started, walkOver}
+use Rattle.walk_states.specs.Reads.{Small}
 use Rattle.walk.proofs.Laws.{Ended, ended-stays, step-cases}
 
 -- ---- a step raises each count by at most one

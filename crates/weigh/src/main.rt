@@ -5,7 +5,7 @@ ghost use Rattle.io.specs.Counts.{Counts};
 use libc::STDERR_FILENO;
 use libc::STDIN_FILENO;
 use libc::STDOUT_FILENO;
-use text_items::MOST_BYTES;
+use text_words::MOST_BYTES;
 use weigh_text::MOST_ANSWER;
 use weigh_text::weigh_text;
 

@@ -8,7 +8,7 @@ use lib.ListN.{length, take, length-take}
 use lib.Seq.{take-all}
 use Rattle.questions.specs.Questions.{sizesFine}
 use Rattle.sheet.specs.Sheet.{Sheet, variables}
-use Rattle.sheet.specs.Answers.{ask, firstNo}
+use Rattle.sheet_answers.specs.Answers.{ask, firstNo}
 use Rattle.verdict.specs.Verdict.{refusedWith, verdict}
 use Rattle.many_widened.proofs.ManyWidened.{fine-few, front-decides}
 use Rattle.same_widened.specs.Interchangeable.{Interchangeable, withWidened}

@@ -13,7 +13,7 @@ use Rattle.cdouble.proofs.Contracts.{when-true, when-false}
 use Rattle.questions.specs.Limits.{mostRows, mostStructurals, mostEntries}
 use Rattle.questions.specs.Questions.{sizesFine}
 use Rattle.sheet.specs.Sheet.{Sheet, sheet, variables}
-use Rattle.sheet.proofs.Accepted.{SizesHold, sizes-hold, lengths-hold}
+use Rattle.sheet_answers.proofs.Accepted.{SizesHold, sizes-hold, lengths-hold}
 use Rattle.verdict.specs.declared.Verdict.{Verdict}
 use Rattle.verdict.specs.Verdict.{refusedWith, verdict}
 use Rattle.verdict.proofs.Whole.{Declined}
@@ -21,10 +21,10 @@ use Rattle.same_widened.specs.Interchangeable.{Interchangeable}
 use Rattle.same_widened.proofs.SameWidened.{same-verdict, same-declined}
 use Rattle.repeats.specs.Filled.{column, filledFrom}
 use Rattle.repeats.proofs.Fronts.{front-of, take-map}
-use Rattle.text_lines.specs.declared.variable_lines.VariableLine.{VariableLine}
-use Rattle.text_lines.specs.declared.row_items.Pair.{Pair}
-use Rattle.text_lines.specs.declared.sided_lines.WidenedLine.{WidenedLine}
-use Rattle.text_lines.specs.declared.multiplier_lines.RhoLine.{RhoLine}
+use Rattle.text_variable_line.specs.declared.variable_lines.VariableLine.{VariableLine}
+use Rattle.text_rows.specs.declared.row_items.Pair.{Pair}
+use Rattle.text_sides.specs.declared.sided_lines.WidenedLine.{WidenedLine}
+use Rattle.text_multipliers.specs.declared.multiplier_lines.RhoLine.{RhoLine}
 use Rattle.text_lists.specs.declared.row_lists.RowLine.{RowLine}
 use Rattle.sheet_text.specs.declared.Read.{Read}
 use Rattle.sheet_text.specs.Parts.{structuralLinesIn, variableLinesIn, rowLinesIn, pairsIn, widenedLinesIn, rhoLinesIn}
@@ -32,31 +32,17 @@ use Rattle.sheet_text.specs.Form.{readIn, formMet, followsForm}
 use Rattle.sheet_text.specs.SheetIn.{lentOutputs, sheetIn}
 use Rattle.sheet_text.proofs.Lengths.{widened-long, lengths-fine}
 use Rattle.sheet_text.proofs.Slices.{structurals-cut, variables-cut, rows-cut, starts-cut, pairs-cut, rhos-cut, form-is}
-use Rattle.front_verdict.specs.Fronts.{mostVariables, mostWidened, HasRoom, fewest, fronts, frontVerdict}
+use Rattle.many_widened.specs.Fewest.{fewest, mostWidened}
+use Rattle.many_widened.proofs.Fewest.{fewest-most, fewest-takes, fewest-within}
+use Rattle.front_verdict.specs.Fronts.{mostVariables, HasRoom, fronts, frontVerdict}
 use Rattle.weigh_text.specs.TextVerdict.{textVerdict}
 use Rattle.weigh_text.proofs.Cut.{cutWidened, cut-interchangeable, sizes-refused}
-use Rattle.front_verdict.proofs.Whole.{fewest-most}
 
 -- what was read, with lists from elsewhere
 abbrev pub readWith : Read → List ℕ → List ℕ → List Float → List Float → List Float → List ℕ → List Float → List Float → List Float → List Float → List ℕ → List ℕ → List Float → List ℕ → List ℕ → List Float → List Float → List Float → Sheet
 readWith r starts columns entries rightSides scales integer mins maxs lowTolerances highTolerances basic places values widenedVariables widenedUps rhoHi rhoLo second =
     sheet (record { rows = r .rows; structurals = r .structurals; entries = r .entries }) (r .feasibility) (r .checked) (r .«leaving_row») (r .«leaving_up») lentOutputs
     starts columns entries rightSides scales integer mins maxs lowTolerances highTolerances basic places values widenedVariables widenedUps rhoHi rhoLo second
-
--- how many widened items are looked at, of so many
-fewest-takes : {A : Type 0} (xs : List A) → take (fewest (length xs)) xs ≡ take mostWidened xs
-fewest-takes xs = go (ltb (length xs) mostWidened) refl
-  where
-    go : (b : Bool) → ltb (length xs) mostWidened ≡ b → take (cond b (length xs) mostWidened) xs ≡ take mostWidened xs
-    go true e = take-all (length xs) xs (omega arith) ∙ sym (take-all mostWidened xs (omega (arith, ltb-true (length xs) mostWidened e)))
-    go false e = refl
-
-fewest-within : (n : ℕ) → fewest n ≤ n
-fewest-within n = go (ltb n mostWidened) refl
-  where
-    go : (b : Bool) → ltb n mostWidened ≡ b → cond b n mostWidened ≤ n
-    go true e = omega arith
-    go false e = ltb-false n mostWidened e
 
 -- ---- a text, and lists with room that it is read into
 module _ (text : List ℕ) (room : Sheet) where

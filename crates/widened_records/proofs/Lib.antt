@@ -1,3 +1,4 @@
 pub mod Counts
 pub mod Marked
 pub mod Listed
+pub mod Front

@@ -3,12 +3,14 @@
 ghost use mathlib.Core.Path.{_≡_};
 ghost use mathlib.Core.Bool.{Bool, false, not};
 ghost use Prim.Native.Nat.{ℕ, _<_};
-ghost use lib.ListN.{getD};
+ghost use lib.ListN.{getD, take};
 ghost use Rattle.place_questions.specs.Tallies.{markOf};
 ghost use Rattle.place_questions.specs.Questions.{widenedFine};
 ghost use Rattle.variable_kinds.specs.Variables.{isWidened};
+ghost use Rattle.many_widened.specs.Fewest.{mostWidened};
 ghost use Rattle.widened_records.specs.Records.{countOf, upsOf, variablesOf};
 ghost use Rattle.widened_records.specs.Found.{foundIn, nothingFound, notedIn};
+use many_widened::looked_at;
 use place_questions::mark_of;
 use questions::MOST_ROWS;
 use questions::MOST_STRUCTURALS;
@@ -68,15 +70,17 @@ fn noted(mut found: Found, w: Widened, rows: usize, structurals: usize) -> Found
     found
 }
 
-/// Searches the list: of each variable and side whether it is widened, and whether an item is amiss.
+/// Searches the list: whether an item is amiss, and where none is, of each variable and side whether it is widened. A list
+/// that is longer than any without one amiss is gone through as far as that shows.
 pub fn search(list: &[Widened], rows: usize, structurals: usize) -> Found
-    ensures { λ r. ⌜ r ≡ foundIn (countOf rows structurals) (now (list .entry)) ⌝ }
-    ensures { λ r. ⌜ ((v : ℕ) (up : Bool) → v < countOf rows structurals → getD (r .marks) (markOf v up) false ≡ isWidened (variablesOf (now (list .entry))) (upsOf (now (list .entry))) v up) ⌝ }
+    ensures { λ r. ⌜ r ≡ foundIn (countOf rows structurals) (take mostWidened (now (list .entry))) ⌝ }
+    ensures { λ r. ⌜ (r .amiss ≡ false → (v : ℕ) (up : Bool) → v < countOf rows structurals → getD (r .marks) (markOf v up) false ≡ isWidened (variablesOf (now (list .entry))) (upsOf (now (list .entry))) v up) ⌝ }
     ensures { λ r. ⌜ r .amiss ≡ not (widenedFine (countOf rows structurals) (variablesOf (now (list .entry))) (upsOf (now (list .entry)))) ⌝ }
 {
     let mut found = nothing_found();
+    let end = looked_at(list.len());
     let mut i = 0;
-    while i < list.len() {
+    while i < end {
         found = noted(found, list[i], rows, structurals);
         i += 1;
     }

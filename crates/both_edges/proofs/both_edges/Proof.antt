@@ -1,7 +1,7 @@
 -- `both_edges` meets its contract. Assumes nothing.
 use borrow.Author.Needs.{needs}
 use mathlib.Core.Bool.{true, false}
-use Rattle.edges.specs.Model.{Model, model}
+use Rattle.variable_bounds.specs.Model.{Model, model}
 use Rattle.both_edges.proofs.Pairs.{held-edge, moved-edge}
 use Rattle.both_edges.proofs.both_edges.Statement.{statement}
 use Rattle.both_edges.proofs.both_edges.Tie as tie

@@ -1,6 +1,6 @@
 -- `rooms` meets its contract. Assumes nothing.
 use borrow.Author.Needs.{needs}
-use Rattle.edges.specs.Model.{Model, model}
+use Rattle.variable_bounds.specs.Model.{Model, model}
 use Rattle.both_edges.proofs.Pairs.{structural-rooms, slack-rooms, row-inside}
 use Rattle.both_edges.proofs.rooms.Statement.{statement}
 use Rattle.both_edges.proofs.rooms.Tie as tie

@@ -3,7 +3,8 @@ use native.Mathlib.Omega.{arith}
 use mathlib.Core.Path.{refl}
 use Rattle.sheet.specs.Sheet.{Sheet, sheet}
 use Rattle.sheet_text.specs.SheetIn.{lentOutputs}
-use Rattle.front_verdict.proofs.Whole.{few, fewest-most, front-full, front-long, front-refused, sizes-pass}
+use Rattle.many_widened.proofs.Fewest.{fewest-most}
+use Rattle.front_verdict.proofs.Whole.{few, front-full, front-long, front-refused, sizes-pass}
 use borrow.Author.Needs.{needs}
 use Rattle.front_verdict.proofs.verdict_on.Statement.{statement}
 use Rattle.front_verdict.proofs.verdict_on.Tie as tie

@@ -4,8 +4,8 @@ use mathlib.Core.Path.{refl, sym, _∙_}
 use mathlib.Core.List.{List}
 use lib.Ieee.{Float}
 use Rattle.sheet.specs.Sheet.{Sheet, sheet}
-use Rattle.sheet.proofs.Accepted.{all-yes}
-use Rattle.sheet.proofs.Consequences.{by-row, by-variable}
+use Rattle.sheet_answers.proofs.Accepted.{all-yes}
+use Rattle.sheet_answers.proofs.Consequences.{by-row, by-variable}
 use Rattle.added_row.specs.Added.{Lists, lists}
 use Rattle.kept.specs.Kept.{outputs, sizes}
 use Rattle.kept.proofs.Fits.{few-variables}

@@ -3,7 +3,7 @@ use native.Mathlib.Omega.{arith}
 use borrow.Author.Needs.{needs}
 use Prim.Native.Nat.{_-_}
 use lib.Ieee.{ofBits, nanBits}
-use Rattle.edges.specs.Model.{model}
+use Rattle.variable_bounds.specs.Model.{model}
 use Rattle.gaps.specs.Rows.{rangesIn}
 use Rattle.largest.specs.Walk.{at}
 use Rattle.largest.proofs.Walk.{Walking, first-variable, next-variable, walk-ends, all-walked}

@@ -1,5 +1,5 @@
 -- `step` meets its contract. Assumes nothing.
-use Rattle.edges.specs.Model.{Model, model}
+use Rattle.variable_bounds.specs.Model.{Model, model}
 use Rattle.gaps.specs.Rows.{rangesIn}
 use Rattle.largest.specs.declared.Range.{Range}
 use Rattle.largest.specs.Walk.{rangeAt}

@@ -1,7 +1,7 @@
 -- `follows_form` meets its contract. Assumes nothing.
 use mathlib.Core.Path.{refl}
 use borrow.Author.Tests.{le-leb, lt-leb}
-use Rattle.text_items.specs.Items.{mostBytes}
+use Rattle.text_words.specs.Words.{mostBytes}
 use Rattle.sheet_text.proofs.follows_form.Statement.{statement}
 use Rattle.sheet_text.proofs.follows_form.Tie as tie
 

@@ -5,8 +5,8 @@ use Rattle.text_items.proofs.count_then.Statement.{statement}
 use Rattle.text_items.proofs.count_then.Tie as tie
 use Rattle.text_items.proofs.count_then.Reads as reads
 use Rattle.text_items.proofs.count_then.Lts as lts
-use Rattle.text_items.proofs.count_at.Reads as count-at-reads
-use Rattle.text_items.proofs.expect.Reads as expect-reads
+use Rattle.text_numbers.proofs.count_at.Reads as count-at-reads
+use Rattle.text_words.proofs.expect.Reads as expect-reads
 
 count-at-requires : tie.Need-count-at-requires
 count-at-requires c κs = search needs

@@ -5,8 +5,8 @@ use Rattle.text_items.proofs.double_then.Statement.{statement}
 use Rattle.text_items.proofs.double_then.Tie as tie
 use Rattle.text_items.proofs.double_then.Reads as reads
 use Rattle.text_items.proofs.double_then.Lts as lts
-use Rattle.text_items.proofs.double_at.Reads as double-at-reads
-use Rattle.text_items.proofs.expect.Reads as expect-reads
+use Rattle.text_numbers.proofs.double_at.Reads as double-at-reads
+use Rattle.text_words.proofs.expect.Reads as expect-reads
 
 double-at-requires : tie.Need-double-at-requires
 double-at-requires c κs = search needs

@@ -3,8 +3,8 @@ use Prim.Native.Nat.{_-_}
 use native.Mathlib.Nat.{le-trans}
 use native.Mathlib.Omega.{arith}
 use Rattle.repeats.proofs.Runs.{Leads, Fills, leads-start, leads-turn, leads-end, fills-start, fills-turn, fills-below, fills-end, fills-length}
-use Rattle.text_lines.specs.declared.variable_lines.VariableLine.{VariableLine}
-use Rattle.text_lines.specs.Lines.{lineAt}
+use Rattle.text_variable_line.specs.declared.variable_lines.VariableLine.{VariableLine}
+use Rattle.text_variable_line.specs.Lines.{lineAt}
 use Rattle.text_variables.specs.Variables.{afterVariable}
 use Rattle.text_variables.proofs.read_variables.Statement.{statement}
 use Rattle.text_variables.proofs.read_variables.Tie as tie

@@ -1,6 +1,6 @@
 -- `edge` meets its contract. Assumes nothing.
 use borrow.Author.Needs.{needs}
-use Rattle.edges.specs.Model.{Model, model}
+use Rattle.variable_bounds.specs.Model.{Model, model}
 use Rattle.edges.proofs.Tests.{edge-infinite, edge-leaving, edge-on-bounds, edge-widened}
 use Rattle.edges.proofs.variables.edge.Statement.{statement}
 use Rattle.edges.proofs.variables.edge.Tie as tie

@@ -1,7 +1,7 @@
 -- `judge` meets its contract. Assumes nothing.
 use Rattle.certificate.specs.Certificate.{certificate}
 use Rattle.added_row.specs.Added.{lists}
-use Rattle.edges.specs.Model.{Model, model}
+use Rattle.variable_bounds.specs.Model.{Model, model}
 use Rattle.judgement.proofs.Ways.{judgement-is}
 use borrow.Author.Needs.{needs}
 use Rattle.judgement.proofs.gap.judge.Statement.{statement}

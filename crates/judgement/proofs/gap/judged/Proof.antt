@@ -1,5 +1,5 @@
 -- `judged` meets its contract. Assumes nothing.
-use Rattle.edges.specs.Model.{Model, model}
+use Rattle.variable_bounds.specs.Model.{Model, model}
 use Rattle.judgement.proofs.Ways.{judged-is}
 use borrow.Author.Needs.{needs}
 use Rattle.judgement.proofs.gap.judged.Statement.{statement}

@@ -1,5 +1,5 @@
 -- `multiplier_at` meets its contract. Assumes nothing.
-use Rattle.multipliers.specs.Refinement.{rhoAt}
+use Rattle.refinement_error.specs.Refinement.{rhoAt}
 use lib.Ieee.{nan}
 use lib.ListN.{getD}
 use Prim.Native.Nat.{_+_}

@@ -1,6 +1,6 @@
 -- `gap_in` meets its contract. Assumes nothing.
 use mathlib.Core.List.{[]}
-use Rattle.edges.specs.Model.{model}
+use Rattle.variable_bounds.specs.Model.{model}
 use Rattle.certificate.specs.System.{System, multiplierAt, system}
 use Rattle.gaps.specs.Rows.{Ranges, rangesIn, rowsIn}
 use Rattle.coefficients.proofs.Rows.{from-written}

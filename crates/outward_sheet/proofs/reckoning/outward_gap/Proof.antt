@@ -3,7 +3,7 @@ use mathlib.Core.List.{[]}
 use Prim.Native.Nat.{_+_}
 use lib.Ieee.{nanBits, ofBits}
 use Rattle.questions.specs.Limits.{mostRows, mostStructurals}
-use Rattle.edges.specs.Model.{model}
+use Rattle.variable_bounds.specs.Model.{model}
 use Rattle.certificate.specs.System.{System, multiplierAt, system}
 use Rattle.gaps.specs.Rows.{Ranges, rangesIn, rowsIn}
 use Rattle.outward_sheet.proofs.Gap.{zeros-fit, gap-infinite, gap-reckoned}

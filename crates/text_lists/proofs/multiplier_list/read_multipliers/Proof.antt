@@ -2,7 +2,7 @@
 use Prim.Native.Nat.{_-_}
 use native.Mathlib.Omega.{arith}
 use Rattle.repeats.proofs.Runs.{Leads, Fills, leads-start, leads-turn, leads-end, fills-start, fills-turn, fills-end, fills-length}
-use Rattle.text_lines.specs.declared.multiplier_lines.RhoLine.{RhoLine}
+use Rattle.text_multipliers.specs.declared.multiplier_lines.RhoLine.{RhoLine}
 use Rattle.text_lists.specs.Multipliers.{rhoAt, afterRho}
 use Rattle.text_lists.proofs.multiplier_list.read_multipliers.Statement.{statement}
 use Rattle.text_lists.proofs.multiplier_list.read_multipliers.Tie as tie

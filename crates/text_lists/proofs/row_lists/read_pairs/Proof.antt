@@ -5,9 +5,9 @@ use Prim.Native.Nat.{_-_}
 use native.Mathlib.Omega.{arith}
 use denote.Ref.{now}
 use Rattle.repeats.proofs.Chains.{ChainLeads, ChainCounts, ChainFills, Over, chain-leads-turn, chain-leads-end, chain-counts-turn, chain-counts-end, chain-fills-turn, chain-fills-end, chain-fills-length}
-use Rattle.text_items.specs.Items.{mostBytes}
-use Rattle.text_lines.specs.declared.row_items.Pair.{Pair}
-use Rattle.text_lines.specs.Lines.{noPair, pair}
+use Rattle.text_words.specs.Words.{mostBytes}
+use Rattle.text_rows.specs.declared.row_items.Pair.{Pair}
+use Rattle.text_rows.specs.Lines.{noPair, pair}
 use Rattle.text_lists.specs.Rows.{afterPair}
 use Rattle.text_lists.proofs.Reaching.{pairs-reached}
 use Rattle.text_lists.proofs.row_lists.read_pairs.Statement.{statement}

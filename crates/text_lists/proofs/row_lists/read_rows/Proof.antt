@@ -4,7 +4,7 @@ use Prim.Native.Nat.{_-_, _+_}
 use native.Mathlib.Omega.{arith}
 use Rattle.repeats.proofs.Runs.{Leads, Fills, leads-start, leads-turn, leads-end, fills-start, fills-turn, fills-end, fills-length}
 use Rattle.repeats.proofs.Gathers.{Gathers, gathers-start, gathers-turn, gathers-end, gathers-length}
-use Rattle.text_lines.specs.declared.row_items.Pair.{Pair}
+use Rattle.text_rows.specs.declared.row_items.Pair.{Pair}
 use Rattle.text_lists.specs.declared.row_lists.RowLine.{RowLine}
 use Rattle.text_lists.specs.declared.widened_list.Reached.{Reached}
 use Rattle.text_lists.specs.Rows.{rowAt, afterRow, noPairYet, pairsAt}

@@ -5,9 +5,9 @@ use Prim.Native.Nat.{_-_}
 use native.Mathlib.Omega.{arith}
 use denote.Ref.{now}
 use Rattle.repeats.proofs.Chains.{ChainLeads, ChainCounts, ChainFills, Over, chain-leads-turn, chain-leads-end, chain-counts-turn, chain-counts-end, chain-fills-turn, chain-fills-end, chain-fills-length}
-use Rattle.text_items.specs.Items.{mostBytes}
-use Rattle.text_lines.specs.declared.sided_lines.WidenedLine.{WidenedLine}
-use Rattle.text_lines.specs.Lines.{noWidened, widenedLine}
+use Rattle.text_words.specs.Words.{mostBytes}
+use Rattle.text_sides.specs.declared.sided_lines.WidenedLine.{WidenedLine}
+use Rattle.text_sides.specs.Lines.{noWidened, widenedLine}
 use Rattle.text_lists.specs.Widened.{afterWidened}
 use Rattle.text_lists.proofs.Reaching.{widened-reached}
 use Rattle.text_lists.proofs.widened_list.read_widened.Statement.{statement}

@@ -7,8 +7,8 @@ use lib.Ieee.{ofBits}
 use Rattle.added_row.specs.declared.adding.Sums.{Sums}
 use Rattle.certificate.specs.Certificate.{certificate}
 use Rattle.added_row.specs.Added.{lists}
-use Rattle.edges.specs.Model.{model}
-use Rattle.walk.specs.declared.steps.End.the-variants.{Spoilt, Unlimited}
+use Rattle.variable_bounds.specs.Model.{model}
+use Rattle.walk_states.specs.declared.steps.End.the-variants.{Spoilt, Unlimited}
 use Rattle.walk.specs.Walk.{started}
 use Rattle.walk.proofs.Turns.{Walking, first, lent-here, small, done, next, ended}
 use Rattle.walk.proofs.steps.walk_over.Statement.{statement}

@@ -8,7 +8,8 @@ use Rattle.cdouble.specs.Compensated.{plusZero}
 use Rattle.questions.specs.Limits.{mostEntries, mostRows, mostStructurals}
 use Rattle.sheet.specs.Sheet.{Sheet}
 use Rattle.sheet_text.specs.Form.{readIn}
-use Rattle.front_verdict.specs.Fronts.{HasRoom, mostVariables, mostWidened}
+use Rattle.many_widened.specs.Fewest.{mostWidened}
+use Rattle.front_verdict.specs.Fronts.{HasRoom, mostVariables}
 use Rattle.weigh_text.proofs.Reading.{lists-have-room, lists-verdict, readWith, text-full, text-refused}
 use borrow.Author.Needs.{needs}
 use Rattle.weigh_text.proofs.text.text_verdict.Statement.{statement}

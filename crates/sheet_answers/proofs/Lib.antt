@@ -1,0 +1,3 @@
+pub mod Ask
+pub mod Accepted
+pub mod Consequences
