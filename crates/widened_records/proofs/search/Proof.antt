@@ -151,6 +151,12 @@ module _ (k : ℕ) (ys : List Widened) where
 beside : {M : Type 1} (𝓤 : URA M) (P : SProp 𝓤) {Q : SProp 𝓤} → ent 𝓤 (emp 𝓤) Q → ent 𝓤 P (sep 𝓤 P Q)
 beside 𝓤 P {Q} h = via 𝓤 (sep 𝓤 (emp 𝓤) P) (emp∗ 𝓤 P) (via 𝓤 (sep 𝓤 Q P) (monoL 𝓤 P h) (comm∗ 𝓤 Q P))
 
+-- three facts, one beside the other
+three : {M : Type 1} (𝓤 : URA M) {X Y Z : Type 0} → X → Y → Z → ent 𝓤 (emp 𝓤) (sep 𝓤 (fact 𝓤 X) (sep 𝓤 (fact 𝓤 Y) (fact 𝓤 Z)))
+three 𝓤 {X} {Y} {Z} x y z =
+    via 𝓤 (fact 𝓤 X) (factI 𝓤 X (emp 𝓤) x)
+    (beside 𝓤 (fact 𝓤 X) (via 𝓤 (fact 𝓤 Y) (factI 𝓤 Y (emp 𝓤) y) (beside 𝓤 (fact 𝓤 Y) (factI 𝓤 Z (emp 𝓤) z))))
+
 module _ {M : Type 1} (𝓤 : URA M) (H : Heap 𝓤) (A : Atoms 𝓤) (mem : Memory → SProp 𝓤) (run : Routine → Fun 𝓤) where
   -- the contracts that the proof cites
   abbrev Begun : Contract 𝓤
@@ -186,11 +192,10 @@ module _ {M : Type 1} (𝓤 : URA M) (H : Heap 𝓤) (A : Atoms 𝓤) (W : Given
   says-all : (r : Found) → r ≡ foundIn k (take mostWidened ys)
       → ent 𝓤 (emp 𝓤) (f.clauses 𝓤 H A mem run (κ, tt) x .ensures tt r (atExit f.ended (κ, tt) x (tt, (tt, (tt, tt)))))
   says-all r e =
-      via 𝓤 (fact 𝓤 _) (factI 𝓤 _ (emp 𝓤) e)
-      (beside 𝓤 _ (via 𝓤 (fact 𝓤 _)
-      (factI 𝓤 _ (emp 𝓤) (λ none v up l. ap (λ (d : Found). getD (d .marks) (markOf v up) false) e
-      ∙ front-marks k ys (count-few n m) (sym (ap (λ (d : Found). d .amiss) e) ∙ none) v up l))
-      (beside 𝓤 _ (factI 𝓤 _ (emp 𝓤) (ap (λ (d : Found). d .amiss) e ∙ front-amiss k ys (count-few n m))))))
+      three 𝓤 e
+      (λ none v up l. ap (λ (d : Found). getD (d .marks) (markOf v up) false) e
+      ∙ front-marks k ys (count-few n m) (sym (ap (λ (d : Found). d .amiss) e) ∙ none) v up l)
+      (ap (λ (d : Found). d .amiss) e ∙ front-amiss k ys (count-few n m))
 
   exits : (r : Found) → r ≡ foundIn k (take mostWidened ys) → Is S r (machineF r ∷ [])
       → ent 𝓤 (⋆ 𝓤 H A (‵ (flft κ q) ∷ ‵ Own ∷ [])) (Post (machineF r))
@@ -331,7 +336,8 @@ module _ {M : Type 1} (𝓤 : URA M) (H : Heap 𝓤) (A : Atoms 𝓤) (W : Given
               assigns-last ! (bin ! (load ! (from ! (stop !)) (look ! 11 refl)) (lit ! tt) (record { fits = omega (arith, below, g .0) }))
               (from ! (stop !)) (store ! 11 refl (tt, record { fits = omega (arith, below, g .0) })) $
               forget ! 1 refl $ forget ! 3 refl $ forget ! 5 refl $ forget ! 7 refl $
-              again ! (Nearer k front) At u (next k front u before r (same (u .i) l (u .f) r e₁) (stands r z ir)) (add-one-dec (length front) (u .i) before))))))
+              again ! (Nearer k front) At u (next k front u before r (same (u .i) l (u .f) r e₁) (stands r z ir))
+              (add-one-dec (length front) (u .i) before))))))
           turn-by u false e =
               let l = ltb-false (u .i) end e in
               let past : length front ≤ u .i = rw front-long l in
@@ -389,7 +395,8 @@ module _ {M : Type 1} (𝓤 : URA M) (H : Heap 𝓤) (A : Atoms 𝓤) (W : Given
           assigns ! (of-opd ! (load ! (from ! (fld ! refl (stop !))) (look-in ! 20 (sub ! 1 refl (whole !))))) (from ! (stop !))
           (init ! 8 refl (tt, record { fits = g .0 })) $
           use0 W (raw (Looked 𝓤 H A mem run .pre to-look)) asked-look $
-          calls-at ! (fmOf 𝓤 H (W .laws) 𝓣) (Looked 𝓤 H A mem run) known-look to-look (and-then ! (load ! (from ! (stop !)) (look ! 9 refl)) (no-more !)) (λ z.
+          calls-at ! (fmOf 𝓤 H (W .laws) 𝓣) (Looked 𝓤 H A mem run) known-look to-look
+          (and-then ! (load ! (from ! (stop !)) (look ! 9 refl)) (no-more !)) (λ z.
           use1 W (later (some (λ (end : ℕ). (‵ ftrue ⊛ ‵ (usize .own end (z ∷ [])))
           ⊛ raw (ensured 𝓤 H A looked-at.ended (looked-at.clauses 𝓤 H A mem run) tt (length ys, tt) tt end)))) (id⊢ 𝓤 _) $ await ! tt $ pick ! (λ end.
           split ! $ move ! (1 ∷ []) $ use1 W (raw (fact 𝓤 (end ≡ fewest (length ys)))) (said-look end) $
