@@ -22,25 +22,17 @@ and compensated_error, of which no more is promised, to a bound on their error. 
 import math
 import os
 import random
-import struct
 import sys
 from fractions import Fraction
 
 # beside the tables' folders; no compiled copy of it is left there
 sys.dont_write_bytecode = True
 sys.path.insert(0, os.path.join(os.path.dirname(os.path.abspath(__file__)), '..'))
+from double_double import add, add_product, add_scaled, bits, double, split, two_product, two_sum  # noqa: E402
 from table import INF, MAX, NAN, NORMAL, ONE, SIGN, both_signs, main, minus, one, power  # noqa: E402
 
 
 # ---- patterns and doubles
-
-def double(b):
-    return struct.unpack('>d', b.to_bytes(8, 'big'))[0]
-
-
-def bits(x):
-    return one(int.from_bytes(struct.pack('>d', x), 'big'))
-
 
 def next_up(x):
     """The pattern's neighbour, so that a zero from below is -0."""
@@ -55,40 +47,6 @@ def next_down(x):
 
 
 # ---- the operations
-
-def two_sum(a, b):
-    x = a + b
-    z = x - a
-    return x, (a - (x - z)) + (b - z)
-
-
-def split(a):
-    c = 134217729.0 * a
-    x = c - (c - a)
-    return x, a - x
-
-
-def two_product(a, b):
-    x = a * b
-    (a1, a2), (b1, b2) = split(a), split(b)
-    return x, a2 * b2 - (((x - a1 * b1) - a2 * b1) - a1 * b2)
-
-
-def add(hi, lo, v):
-    s, c = two_sum(v, hi)
-    return s, lo + c
-
-
-def add_product(hi, lo, a, b):
-    p, e = two_product(a, b)
-    hi, lo = add(hi, lo, p)
-    return hi, lo + e
-
-
-def add_scaled(hi, lo, c_hi, c_lo, b):
-    hi, lo = add_product(hi, lo, c_hi, b)
-    return hi, lo + c_lo * b
-
 
 def upper(x, error):
     return next_up(x) if error > 0.0 else x

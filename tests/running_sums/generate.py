@@ -15,53 +15,14 @@ nearer to its exact sum than plain doubles come, by a factor of 2^40 at least, a
 """
 import os
 import random
-import struct
 import sys
 from fractions import Fraction
 
 # beside the tables' folders; no compiled copy of it is left there
 sys.dont_write_bytecode = True
 sys.path.insert(0, os.path.join(os.path.dirname(os.path.abspath(__file__)), '..'))
-from table import main, minus, one, power  # noqa: E402
-
-
-def double(b):
-    return struct.unpack('>d', b.to_bytes(8, 'big'))[0]
-
-
-def bits(x):
-    return one(int.from_bytes(struct.pack('>d', x), 'big'))
-
-
-# ---- the operations
-
-def two_sum(a, b):
-    x = a + b
-    z = x - a
-    return x, (a - (x - z)) + (b - z)
-
-
-def split(a):
-    c = 134217729.0 * a
-    x = c - (c - a)
-    return x, a - x
-
-
-def two_product(a, b):
-    x = a * b
-    (a1, a2), (b1, b2) = split(a), split(b)
-    return x, a2 * b2 - (((x - a1 * b1) - a2 * b1) - a1 * b2)
-
-
-def add(hi, lo, v):
-    s, c = two_sum(v, hi)
-    return s, lo + c
-
-
-def add_scaled(hi, lo, c_hi, c_lo, b):
-    p, e = two_product(c_hi, b)
-    hi, lo = add(hi, lo, p)
-    return hi, (lo + e) + c_lo * b
+from double_double import add, add_scaled, bits, double  # noqa: E402
+from table import main, minus, power  # noqa: E402
 
 
 # ---- the lines
