@@ -9,7 +9,7 @@ use multipliers::{Multiplier, Spread};
 
 /// The right side of the combined row, the magnitude and count of all terms so far, how many rows are combined, and how
 /// many multipliers that are not 0 were taken as zero.
-#[derive(Drop)]
+#[derive(Clone, Copy)]
 pub struct Sums {
     pub beta: CDouble,
     pub magnitude: f64,

@@ -1,4 +1,7 @@
 //! What one row adds to the certificate.
+
+#![tactic(auto)]
+
 mod adding;
 
 pub use adding::{Sums, spread_row, summed};

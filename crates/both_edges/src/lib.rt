@@ -20,7 +20,7 @@ use variable_kinds::holds_on_bounds;
 use widening_rooms::widening_room;
 
 /// What belongs to the low and to the high side.
-#[derive(Drop)]
+#[derive(Clone, Copy)]
 pub struct Sides {
     pub low: f64,
     pub high: f64,

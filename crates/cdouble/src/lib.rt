@@ -1,5 +1,8 @@
 //! Double-double arithmetic, as the Rust has it: a number is the unevaluated sum of two doubles. Every function takes
 //! every double and asks nothing of its caller; where it is exact, its contract says so.
+
+#![tactic(auto)]
+
 ghost use Rattle.std.specs.Prelude.{◌≡◌, ◌+ℤ◌, ◌*ℤ◌};
 ghost use Rattle.exact.specs.Value.{exact};
 ghost use Rattle.doubles.specs.Directed.{IsUp};
@@ -14,7 +17,7 @@ pub use allowance::compensated_error;
 
 /// The sum `hi + lo`, not evaluated.
 #[repr(C)]
-#[derive(Drop)]
+#[derive(Clone, Copy)]
 pub struct CDouble {
     pub hi: f64,
     pub lo: f64,

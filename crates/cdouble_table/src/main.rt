@@ -5,8 +5,12 @@
 // A line of the table is an operation's letter, five arguments and the two numbers of the right answer, with a space
 // between them. A number is the 16 digits of a double's bit pattern, or of a count for `compensated_error`. Arguments
 // and answers that an operation does not have are 0. A line of any other form counts as one that differs.
+#![tactic(auto)]
+
 use cdouble::{CDouble, compensated_error};
-use tables::{Value, bits_of, count, double_of, number};
+use std::io;
+use std::io::Read;
+use tables::{Value, bits_of, count, double_of, number, read_full};
 use upward_rounding::{add_up, distance_up, mul_up};
 
 // Bytes in a line, its end included.
@@ -21,7 +25,7 @@ const ALL: usize = 17;
 const SHOWN: u64 = 20;
 
 // The two numbers of an answer.
-#[derive(Drop)]
+#[derive(Clone, Copy)]
 struct Bits {
     first: u64,
     second: u64,
@@ -144,11 +148,16 @@ fn holds(s: &[u8; 121], op: usize) -> bool {
 
 // Runs the next line, and answers whether there may be another. What is left of a line cut short stays 0, so such a
 // line has not the form of one. The first lines that differ are printed.
-fn run_line(ran: &mut [u64; 18], differ: &mut [u64; 18]) -> bool {
+fn run_line<I: Read, R: Print>(
+    input: &mut I,
+    rt: &R,
+    ran: &mut [u64; 18],
+    differ: &mut [u64; 18],
+) -> io::Result<bool> {
     let mut line = [0u8; 121];
-    let n = io::read_full(0, &mut line);
+    let n = read_full(input, &mut line)?;
     if n == 0 {
-        return false;
+        return Ok(false);
     }
     let op = operation(line[0]);
     let ok = holds(&line, op);
@@ -158,49 +167,51 @@ fn run_line(ran: &mut [u64; 18], differ: &mut [u64; 18]) -> bool {
         count(differ, op);
         count(differ, ALL);
         if differ[ALL] <= SHOWN {
-            io::write_all(1, &line);
+            rt.write_all(&line)?;
         }
     }
-    n == LINE
+    Ok(n == LINE)
 }
 
 // Writes how many cases were run and how many differ, after a name.
-fn report(name: &[u8], ran: u64, differ: u64) {
-    io::write_all(1, name);
-    io::print_decimal(1, ran);
-    io::write_all(1, b" cases, ");
-    io::print_decimal(1, differ);
-    io::write_all(1, b" differ\n");
+fn report(rt: &impl Print, name: &str, ran: u64, differ: u64) -> io::Result<()> {
+    println!(rt; "{name}{ran} cases, {differ} differ")
 }
 
 // A proved loop has to end, and nothing says that the input does. So the loop counts its turns down, from a number that
 // no run uses up.
-fn run_table(ran: &mut [u64; 18], differ: &mut [u64; 18]) {
+fn run_table<I: Read, R: Print>(
+    input: &mut I,
+    rt: &R,
+    ran: &mut [u64; 18],
+    differ: &mut [u64; 18],
+) -> io::Result<()> {
     let mut turns = u64::MAX;
-    while turns > 0 && run_line(ran, differ) {
+    while turns > 0 && run_line(input, rt, ran, differ)? {
         turns -= 1;
     }
+    Ok(())
 }
 
-fn main() {
+fn main(rt: HostRuntime) -> io::Result<()> {
     let mut ran = [0u64; 18];
     let mut differ = [0u64; 18];
-    run_table(&mut ran, &mut differ);
-    report(b"two_sum: ", ran[0], differ[0]);
-    report(b"split: ", ran[1], differ[1]);
-    report(b"two_product: ", ran[2], differ[2]);
-    report(b"add: ", ran[3], differ[3]);
-    report(b"add_product: ", ran[4], differ[4]);
-    report(b"add_scaled: ", ran[5], differ[5]);
-    report(b"neg: ", ran[6], differ[6]);
-    report(b"normalized: ", ran[7], differ[7]);
-    report(b"abs_up: ", ran[8], differ[8]);
-    report(b"value: ", ran[9], differ[9]);
-    report(b"rounded up: ", ran[10], differ[10]);
-    report(b"rounded down: ", ran[11], differ[11]);
-    report(b"add_up: ", ran[12], differ[12]);
-    report(b"mul_up: ", ran[13], differ[13]);
-    report(b"distance_up: ", ran[14], differ[14]);
-    report(b"compensated_error: ", ran[15], differ[15]);
-    report(b"", ran[ALL], differ[ALL]);
+    run_table(&mut rt.stdin(), &rt, &mut ran, &mut differ)?;
+    report(&rt, "two_sum: ", ran[0], differ[0])?;
+    report(&rt, "split: ", ran[1], differ[1])?;
+    report(&rt, "two_product: ", ran[2], differ[2])?;
+    report(&rt, "add: ", ran[3], differ[3])?;
+    report(&rt, "add_product: ", ran[4], differ[4])?;
+    report(&rt, "add_scaled: ", ran[5], differ[5])?;
+    report(&rt, "neg: ", ran[6], differ[6])?;
+    report(&rt, "normalized: ", ran[7], differ[7])?;
+    report(&rt, "abs_up: ", ran[8], differ[8])?;
+    report(&rt, "value: ", ran[9], differ[9])?;
+    report(&rt, "rounded up: ", ran[10], differ[10])?;
+    report(&rt, "rounded down: ", ran[11], differ[11])?;
+    report(&rt, "add_up: ", ran[12], differ[12])?;
+    report(&rt, "mul_up: ", ran[13], differ[13])?;
+    report(&rt, "distance_up: ", ran[14], differ[14])?;
+    report(&rt, "compensated_error: ", ran[15], differ[15])?;
+    report(&rt, "", ran[ALL], differ[ALL])
 }

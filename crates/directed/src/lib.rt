@@ -1,5 +1,8 @@
 //! Sums and products rounded outward in f64 arithmetic: the rounded result and what its rounding left out say which
 //! neighbour is the bound. The results are those of `outward_rounding`, called wherever this is not known to be exact.
+
+#![tactic(auto)]
+
 mod products;
 mod ranges;
 mod scaled;

@@ -1,5 +1,8 @@
 //! Doubles worked out from their 64 bits: absolute value, finiteness, the larger and the smaller of two, and neighbours.
 //! Every function takes every double and asks nothing of its caller.
+
+#![tactic(auto)]
+
 mod bits;
 mod neighbours;
 

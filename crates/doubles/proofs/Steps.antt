@@ -88,9 +88,9 @@ pub next_nan : (x : Float) → x ≡ nan → x ≡ next_up x
 unfolding next_up
 next_nan x e = e ∙ sym (ap next_up e)
 
-step_up : (s : Bool) (p b : ℕ) → b ≡ cond s (2 ^ 63) 0 + p → b < infinity → double false (b + 1) ≡ step_up s p
-step_up true p b e h = absurd (omega arith)
-step_up false p b e h = ap (double false) (same p b e h)
+step_up_lem : (s : Bool) (p b : ℕ) → b ≡ cond s (2 ^ 63) 0 + p → b < infinity → double false (b + 1) ≡ step_up s p
+step_up_lem true p b e h = absurd (omega arith)
+step_up_lem false p b e h = ap (double false) (same p b e h)
   where
     same : (p b : ℕ) → b ≡ 0 + p → b < infinity → b + 1 ≡ min (suc p) infinity
     same p b e h = omega arith
@@ -136,7 +136,7 @@ module _ {x : Float} (n : Number x) where
   step = sym (next_step x n.no_nan n.fit)
 
   pub up_positive : {y : Float} → b < infinity → y ≡ double false (b + 1) → y ≡ next_up x
-  up_positive l e = e ∙ step_up (sign x) (rank_of x) b w.bits l ∙ step
+  up_positive l e = e ∙ step_up_lem (sign x) (rank_of x) b w.bits l ∙ step
 
   pub up_infinity : b ≡ infinity → x ≡ next_up x
   up_infinity l = sym (of_bits-to_bits binary64 x n.fit) ∙ ap (of_bits binary64) l ∙ step_infinity (sign x) (rank_of x) (sym l ∙ w.bits) ∙ step

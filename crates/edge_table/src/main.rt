@@ -5,7 +5,11 @@
 // A line of the table is an operation's letter, its two arguments and the right answer, with a space between them:
 // `U 3FF0000000000000 3CA0000000000000 3FF0000000000001`. A number is the 16 digits of a double's bit pattern. An
 // operation on one number has it twice. A line of any other form counts as one that differs.
-use tables::{Value, bits_of, count, double_of, number};
+#![tactic(auto)]
+
+use std::io;
+use std::io::Read;
+use tables::{Value, bits_of, count, double_of, number, read_full};
 
 // Bytes in a line, its end included.
 const LINE: usize = 53;
@@ -81,11 +85,16 @@ fn holds(s: &[u8; 53], op: usize) -> bool {
 
 // Runs the next line, and answers whether there may be another. What is left of a line cut short stays 0, so such a
 // line has not the form of one. The first lines that differ are printed.
-fn run_line(ran: &mut [u64; 12], differ: &mut [u64; 12]) -> bool {
+fn run_line<I: Read, R: Print>(
+    input: &mut I,
+    rt: &R,
+    ran: &mut [u64; 12],
+    differ: &mut [u64; 12],
+) -> io::Result<bool> {
     let mut line = [0u8; 53];
-    let n = io::read_full(0, &mut line);
+    let n = read_full(input, &mut line)?;
     if n == 0 {
-        return false;
+        return Ok(false);
     }
     let op = operation(line[0]);
     let ok = holds(&line, op);
@@ -95,43 +104,45 @@ fn run_line(ran: &mut [u64; 12], differ: &mut [u64; 12]) -> bool {
         count(differ, op);
         count(differ, ALL);
         if differ[ALL] <= SHOWN {
-            io::write_all(1, &line);
+            rt.write_all(&line)?;
         }
     }
-    n == LINE
+    Ok(n == LINE)
 }
 
 // Writes how many cases were run and how many differ, after a name.
-fn report(name: &[u8], ran: u64, differ: u64) {
-    io::write_all(1, name);
-    io::print_decimal(1, ran);
-    io::write_all(1, b" cases, ");
-    io::print_decimal(1, differ);
-    io::write_all(1, b" differ\n");
+fn report(rt: &impl Print, name: &str, ran: u64, differ: u64) -> io::Result<()> {
+    println!(rt; "{name}{ran} cases, {differ} differ")
 }
 
 // A proved loop has to end, and nothing says that the input does. So the loop counts its turns down, from a number that
 // no run uses up.
-fn run_table(ran: &mut [u64; 12], differ: &mut [u64; 12]) {
+fn run_table<I: Read, R: Print>(
+    input: &mut I,
+    rt: &R,
+    ran: &mut [u64; 12],
+    differ: &mut [u64; 12],
+) -> io::Result<()> {
     let mut turns = u64::MAX;
-    while turns > 0 && run_line(ran, differ) {
+    while turns > 0 && run_line(input, rt, ran, differ)? {
         turns -= 1;
     }
+    Ok(())
 }
 
-fn main() {
+fn main(rt: HostRuntime) -> io::Result<()> {
     let mut ran = [0u64; 12];
     let mut differ = [0u64; 12];
-    run_table(&mut ran, &mut differ);
-    report(b"abs: ", ran[0], differ[0]);
-    report(b"is_finite: ", ran[1], differ[1]);
-    report(b"max: ", ran[2], differ[2]);
-    report(b"min: ", ran[3], differ[3]);
-    report(b"next_up: ", ran[4], differ[4]);
-    report(b"next_down: ", ran[5], differ[5]);
-    report(b"sum_up: ", ran[6], differ[6]);
-    report(b"sum_down: ", ran[7], differ[7]);
-    report(b"product_bounds down: ", ran[8], differ[8]);
-    report(b"product_bounds up: ", ran[9], differ[9]);
-    report(b"", ran[ALL], differ[ALL]);
+    run_table(&mut rt.stdin(), &rt, &mut ran, &mut differ)?;
+    report(&rt, "abs: ", ran[0], differ[0])?;
+    report(&rt, "is_finite: ", ran[1], differ[1])?;
+    report(&rt, "max: ", ran[2], differ[2])?;
+    report(&rt, "min: ", ran[3], differ[3])?;
+    report(&rt, "next_up: ", ran[4], differ[4])?;
+    report(&rt, "next_down: ", ran[5], differ[5])?;
+    report(&rt, "sum_up: ", ran[6], differ[6])?;
+    report(&rt, "sum_down: ", ran[7], differ[7])?;
+    report(&rt, "product_bounds down: ", ran[8], differ[8])?;
+    report(&rt, "product_bounds up: ", ran[9], differ[9])?;
+    report(&rt, "", ran[ALL], differ[ALL])
 }

@@ -16,7 +16,7 @@ use walk_states::Walked;
 use weighed_gap::{gap_of, gap_sum, weigh};
 
 /// The judgement's numbers, and how many rows the certificate combines.
-#[derive(Drop)]
+#[derive(Clone, Copy)]
 pub struct Proof {
     pub holds: bool,
     pub gap: f64,

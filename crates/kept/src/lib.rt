@@ -16,7 +16,7 @@ use variable_kinds::leaving_variable;
 
 /// The number of the first question whose answer is no, or 0 and the kept numbers.
 #[repr(C)]
-#[derive(Drop)]
+#[derive(Clone, Copy)]
 pub struct Kept {
     pub refusal: u32,
     pub holds: bool,

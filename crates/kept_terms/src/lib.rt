@@ -1,4 +1,7 @@
 //! A kept row, times its multiplier, added to the coefficients.
+
+#![tactic(auto)]
+
 ghost use Rattle.std.specs.Prelude.{◌≡◌, length};
 ghost use Rattle.added_row.specs.Added.{after_terms, kept_into, lists, with_term};
 ghost use Rattle.added_row.specs.Reads.{RowFits, TermFits};

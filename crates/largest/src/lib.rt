@@ -19,14 +19,14 @@ pub const INFINITY: u64 = 0x7FF0_0000_0000_0000;
 pub const NEG_INFINITY: u64 = 0xFFF0_0000_0000_0000;
 
 /// The low and the high edge of a variable.
-#[derive(Drop)]
+#[derive(Clone, Copy)]
 pub struct Range {
     pub low: f64,
     pub high: f64,
 }
 
 /// The largest value over the variables so far, unless one of them has no limit.
-#[derive(Drop)]
+#[derive(Clone, Copy)]
 pub enum Largest {
     Sum(f64),
     Unlimited,

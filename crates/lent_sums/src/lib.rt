@@ -1,4 +1,6 @@
 //! Sums of double-doubles in place, for callers who keep a running sum in memory of their own.
+#![tactic(auto)]
+
 ghost use Rattle.std.specs.Prelude.{◌≡◌};
 ghost use Rattle.cdouble.specs.Compensated.{plus, plus_scaled};
 

@@ -1,4 +1,7 @@
 //! The multipliers that a row of the basis inverse suggests: which are kept.
+
+#![tactic(auto)]
+
 mod weighing;
 
 pub use weighing::{Multiplier, Spread, multiplier_at, spreads};

@@ -10,7 +10,7 @@ use cdouble::CDouble;
 use double_bits::abs;
 
 /// A row's multiplier: dropped because it is within its error of zero, dropped otherwise, or kept.
-#[derive(Drop)]
+#[derive(Clone, Copy)]
 pub enum Multiplier {
     Zeroed(CDouble),
     Dropped,
@@ -18,7 +18,7 @@ pub enum Multiplier {
 }
 
 /// How much of the multipliers' errors a row carries to its variables in basis, per unit of their entries.
-#[derive(Drop)]
+#[derive(Clone, Copy)]
 pub enum Spread {
     Nothing,
     By(f64),

@@ -10,7 +10,7 @@ use rank_arithmetic::{rank_difference, rank_product, rank_sum};
 use ranked_doubles::{SIGN, negative, positive};
 
 /// A lower and an upper bound.
-#[derive(Drop)]
+#[derive(Clone, Copy)]
 pub struct Bounds {
     pub down: f64,
     pub up: f64,

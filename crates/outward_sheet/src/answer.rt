@@ -17,7 +17,7 @@ use sheet_answers::first_no;
 use variable_kinds::leaving_variable;
 
 /// The number of the first question whose answer is no, or 0 and the outward gap.
-#[derive(Drop)]
+#[derive(Clone, Copy)]
 pub struct Outward {
     pub refusal: u32,
     pub gap: f64,

@@ -1,4 +1,7 @@
 //! The printer of document 01's sheet: the nine lines of a verdict, or the one line of a refusal.
+
+#![tactic(auto)]
+
 ghost use Rattle.std.specs.Prelude.{◌≡◌, ℕ, ◌≤◌, length};
 ghost use Rattle.stored_text.specs.Stored.{Stored};
 ghost use Rattle.printer.specs.Answer.{answer_text, nine_lines, refusal_line, written_if_fits};
@@ -9,7 +12,7 @@ use stored_text::put_text;
 mod line;
 
 /// The values of the nine lines, in their order.
-#[derive(Drop)]
+#[derive(Clone, Copy)]
 pub struct Lines {
     pub holds: bool,
     pub gap: f64,

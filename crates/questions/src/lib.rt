@@ -1,5 +1,8 @@
 //! The questions put to lists of numbers, and the limits. The sheet's own crate asks all questions in document 01's order;
 //! what a function here asks of its caller is what the earlier questions have shown.
+
+#![tactic(auto)]
+
 mod lists;
 
 pub use lists::{all_finite, bounds_fine, leaving_row_fine, tolerances_fine};

@@ -1,5 +1,8 @@
 //! Doubles that are not negative, by their rank, which is the bit pattern: the ranks of the bounds of a sum, a difference and a
 //! product of two.
+
+#![tactic(auto)]
+
 mod ranks;
 mod words;
 

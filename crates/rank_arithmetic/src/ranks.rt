@@ -9,7 +9,7 @@ use crate::words::{times, width, without};
 const FIELD: u64 = 0x10_0000_0000_0000;
 
 /// The ranks of a lower and an upper bound.
-#[derive(Drop)]
+#[derive(Clone, Copy)]
 pub struct Ranks {
     pub down: u64,
     pub up: u64,

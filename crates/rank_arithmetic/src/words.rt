@@ -3,14 +3,14 @@ ghost use Rattle.std.specs.Prelude.{◌≡◌, ◌+◌, ◌*◌, ◌/◌, ◌%�
 ghost use Rattle.std.specs.Float.Ieee.{size};
 
 /// `hi` 2^64 + `lo`.
-#[derive(Drop)]
+#[derive(Clone, Copy)]
 pub struct Wide {
     pub hi: u64,
     pub lo: u64,
 }
 
 /// A whole part, and 1 where something is left of it and 0 where nothing is.
-#[derive(Drop)]
+#[derive(Clone, Copy)]
 pub struct Cut {
     pub whole: u64,
     pub left: u64,

@@ -1,4 +1,7 @@
 //! A double by its sign and its rank, which is the rest of its bit pattern, and the two patterns that the others are told by.
+
+#![tactic(auto)]
+
 ghost use Rattle.std.specs.Prelude.{◌≡◌, true, false, ◌≤◌};
 ghost use Rattle.rank_arithmetic.specs.Rank.{double, infinity};
 

@@ -8,7 +8,7 @@ use cdouble::CDouble;
 use double_bits::{abs, is_finite, max};
 
 /// The largest magnitude of some numbers, unless one is not finite.
-#[derive(Drop)]
+#[derive(Clone, Copy)]
 pub enum Norm {
     Largest(f64),
     NotFinite,

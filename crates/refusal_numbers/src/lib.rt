@@ -1,9 +1,12 @@
 //! The refusals, each with document 01's number.
+
+#![tactic(auto)]
+
 ghost use Rattle.std.specs.Prelude.{◌≡◌};
 ghost use Rattle.refusal_numbers.specs.Numbers.{number_of};
 
 /// Which question refuses the sheet.
-#[derive(Drop)]
+#[derive(Clone, Copy)]
 pub enum Refusal {
     None,
     Sizes,

@@ -106,7 +106,7 @@ type Given = [usize; 4];
 type Counts = [u64; 30];
 
 // A part of an array.
-#[derive(Drop)]
+#[derive(Clone, Copy)]
 struct Part {
     from: usize,
     end: usize,

@@ -142,7 +142,7 @@ type Given = [usize; 8];
 type Counts = [u64; 27];
 
 // A part of an array.
-#[derive(Drop)]
+#[derive(Clone, Copy)]
 struct Part {
     from: usize,
     end: usize,

@@ -6,7 +6,7 @@ use double_bits::abs;
 use tolerances::trimmed_room;
 
 /// The sum of a row's terms, and the magnitude that it was computed from.
-#[derive(Drop)]
+#[derive(Clone, Copy)]
 pub struct Activity {
     pub lhs: f64,
     pub magnitude: f64,

@@ -3,23 +3,27 @@
 //
 // A line is two numbers with a space between them, each the 16 digits of a double's bit pattern. A line of any other form is
 // written as it is, and adds nothing.
+#![tactic(auto)]
+
 ghost use Rattle.std.specs.Prelude.{◌≡◌};
 ghost use Rattle.cdouble.specs.Compensated.{pair, plus, plus_scaled, plus_zero};
 
 use cdouble::CDouble;
 use lent_sums::{cdouble_add, cdouble_add_scaled};
+use std::io;
+use std::io::Read;
 use stored_text::put_double;
-use tables::{Value, double_of, number};
+use tables::{Value, double_of, number, read_full};
 
 // What a line spells.
-#[derive(Drop)]
+#[derive(Clone, Copy)]
 enum Terms {
     Are(f64, f64),
     Bad,
 }
 
 // The running sums.
-#[derive(Drop)]
+#[derive(Clone, Copy)]
 struct Sums {
     sum: CDouble,
     dot: CDouble,
@@ -73,19 +77,19 @@ fn read_terms(line: &[u8; 34]) -> Terms {
 }
 
 // The sums with what a line adds to them.
-fn with_line(s: Sums, line: &[u8; 34]) -> Sums {
+fn with_line(rt: &impl Print, s: Sums, line: &[u8; 34]) -> io::Result<Sums> {
     let found = read_terms(line);
     let Terms::Are(a, b) = found else {
-        io::write_all(1, b"not two doubles: ");
-        io::write_all(1, line);
-        return s;
+        rt.write_all(b"not two doubles: ")?;
+        rt.write_all(line)?;
+        return Ok(s);
     };
-    with_pair(s, a, b)
+    Ok(with_pair(s, a, b))
 }
 
 // The sums of all lines. A proved loop has to end, and nothing says that the input does. So the loop counts its turns down,
 // from a number that no run uses up. What is left of a line cut short stays 0, so such a line has not the form of one.
-fn read_sums() -> Sums {
+fn read_sums<I: Read, R: Print>(input: &mut I, rt: &R) -> io::Result<Sums> {
     let zero = CDouble { hi: 0.0, lo: 0.0 };
     let mut s = Sums {
         sum: zero,
@@ -94,28 +98,28 @@ fn read_sums() -> Sums {
     let mut turns = u64::MAX;
     while turns > 0 {
         let mut line = [0u8; 34];
-        let n = io::read_full(0, &mut line);
+        let n = read_full(input, &mut line)?;
         if n == 0 {
-            return s;
+            return Ok(s);
         }
-        s = with_line(s, &line);
+        s = with_line(rt, s, &line)?;
         turns -= 1;
     }
-    s
+    Ok(s)
 }
 
 // Writes both parts of a sum after its name.
-fn report(name: &[u8], c: CDouble) {
+fn report(rt: &impl Print, name: &str, c: CDouble) -> io::Result<()> {
     let mut line = [b' '; 34];
     line[33] = b'\n';
     put_double(&mut line, 0, c.hi);
     put_double(&mut line, 17, c.lo);
-    io::write_all(1, name);
-    io::write_all(1, &line);
+    rt.print(name)?;
+    rt.write_all(&line)
 }
 
-fn main() {
-    let s = read_sums();
-    report(b"sum ", s.sum);
-    report(b"dot ", s.dot);
+fn main(rt: HostRuntime) -> io::Result<()> {
+    let s = read_sums(&mut rt.stdin(), &rt)?;
+    report(&rt, "sum ", s.sum)?;
+    report(&rt, "dot ", s.dot)
 }

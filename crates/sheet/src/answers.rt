@@ -7,7 +7,7 @@ ghost use Rattle.questions.specs.Questions.{sizes_fine};
 use questions::{MOST_ENTRIES, MOST_ROWS, MOST_STRUCTURALS};
 
 /// How many rows, structural variables and entries there are.
-#[derive(Drop)]
+#[derive(Clone, Copy)]
 pub struct Sizes {
     pub rows: usize,
     pub structurals: usize,
@@ -15,7 +15,7 @@ pub struct Sizes {
 }
 
 /// How many places each lent output has.
-#[derive(Drop)]
+#[derive(Clone, Copy)]
 pub struct Outputs {
     pub high: usize,
     pub low: usize,

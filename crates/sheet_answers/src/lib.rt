@@ -1,4 +1,7 @@
 //! What is asked of the sheet, in document 01's order, and the answer, before anything is weighed.
+
+#![tactic(auto)]
+
 ghost use Rattle.std.specs.Prelude.{◌≡◌};
 ghost use Rattle.sheet.specs.Sheet.{sheet};
 ghost use Rattle.sheet_answers.specs.Answers.{first_no};

@@ -17,7 +17,7 @@ use text_variables::read_variables;
 use text_words::MOST_BYTES;
 
 /// What a text says apart from its lists.
-#[derive(Drop)]
+#[derive(Clone, Copy)]
 pub struct Read {
     /// How many rows, structural variables, entries and widened items there are.
     pub rows: usize,

@@ -1,4 +1,7 @@
 //! The round-off withheld from the room of the leaving slack.
+
+#![tactic(auto)]
+
 ghost use Rattle.std.specs.Prelude.{◌≡◌, ◌≤◌};
 ghost use Rattle.variable_bounds.specs.Model.{model};
 ghost use Rattle.slack_cut.specs.Cut.{cut_at, cut_of, leaving_slack_cut};

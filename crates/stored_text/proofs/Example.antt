@@ -1,6 +1,6 @@
 -- Printed numbers, by computation: the counts 0, 305 and the largest of 64 bits, the double 39F8000000000000, and NaN. Assumes nothing.
 use mathlib.Core.Path.{◌≡◌, refl}
-use mathlib.Core.List.{[], ◌∷◌, ◌++◌}
+use mathlib.Core.List.{[], ◌∷◌}
 use lib.ListN.{length, replicate}
 use lib.Ieee.{nan, of_bits, to_bits, binary64}
 use Rattle.stored_text.specs.Digits.{digits, digit_count, hexadecimal, decimal}

@@ -1,5 +1,8 @@
 //! Texts, counts and doubles put into a slice of bytes from a place on. Each function returns the place after what it put; what
 //! would stand beyond the slice's end is left out.
+
+#![tactic(auto)]
+
 ghost use Rattle.std.specs.Prelude.{◌≡◌, ℕ, ◌+◌, ◌≤◌, length};
 ghost use Rattle.stored_text.specs.Digits.{hexadecimal, decimal, digit_count};
 ghost use Rattle.stored_text.specs.Stored.{Stored};

@@ -1,9 +1,30 @@
-//! What the programs that run a table of cases share: the numbers of a line, doubles and their patterns, and counts of
-//! cases.
-ghost use Rattle.std.specs.Prelude.{◌≡◌, ◌+◌, ◌≤◌, min};
+//! What the programs that run a table of cases share: the reading of a line, its numbers, doubles and their patterns, and
+//! counts of cases.
+
+#![tactic(auto)]
+
+ghost use Rattle.std.specs.Prelude.{◌≡◌, ◌+◌, ◌≤◌, min, length, IfOk};
 ghost use Rattle.std.specs.Float.{binary64};
 ghost use Rattle.std.specs.Float.Ieee.{of_bits, to_bits};
 ghost use Rattle.tables.specs.Table.{counted, digit_of, digits};
+
+use std::io;
+use std::io::Read;
+
+/// Reads until the bytes are full or the input ends, and answers how many came. What is left of the bytes stays.
+pub fn read_full<R: Read>(input: &mut R, bytes: &mut [u8]) -> io::Result<usize>
+    ensures { IfOk result (λ n. n ≤ length bytes.new) }
+{
+    let mut done = 0;
+    while done < bytes.len() {
+        let n = input.read(&mut bytes[done..])?;
+        if n == 0 {
+            break;
+        }
+        done += n;
+    }
+    Ok(done)
+}
 
 /// What 16 bytes of a line spell.
 #[derive(Drop)]

@@ -9,7 +9,7 @@ use text_numbers::Double;
 use text_spaced::count_after;
 
 /// `(sheet ROWS STRUCTURALS)` and `(feasibility FEASIBILITY)`.
-#[derive(Drop)]
+#[derive(Clone, Copy)]
 pub struct Heading {
     pub rows: usize,
     pub structurals: usize,

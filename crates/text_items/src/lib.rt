@@ -1,4 +1,7 @@
 //! A number of the sheet and the word after it: both are read at a position of a text, and the answer has the position after them.
+
+#![tactic(auto)]
+
 ghost use Rattle.std.specs.Prelude.{◌≡◌};
 ghost use Rattle.text_items.specs.Items.{double_then, count_then};
 

@@ -1,5 +1,8 @@
 //! The lists behind the variables of a sheet, read into lent slices: the rows with their pairs, the widened lines, and the
 //! multipliers. A slice shorter than its list holds the front of it.
+
+#![tactic(auto)]
+
 mod multiplier_list;
 mod row_lists;
 mod widened_list;

@@ -11,7 +11,7 @@ use text_rows::{no_pair, pair_at, row_end, row_head};
 use text_words::MOST_BYTES;
 
 /// What a row's line says of it.
-#[derive(Drop)]
+#[derive(Clone, Copy)]
 pub struct RowLine {
     pub right: f64,
     pub scale: f64,

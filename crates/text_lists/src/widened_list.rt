@@ -9,7 +9,7 @@ use text_sides::{no_widened, widened_line};
 use text_words::MOST_BYTES;
 
 /// How far a list was read.
-#[derive(Drop)]
+#[derive(Clone, Copy)]
 pub struct Reached {
     /// How many things were read so far.
     pub count: usize,

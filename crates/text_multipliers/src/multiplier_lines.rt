@@ -7,7 +7,7 @@ use text_spaced::{double_space, line_end};
 use text_words::{Choice, either, expect};
 
 /// A row's multiplier.
-#[derive(Drop)]
+#[derive(Clone, Copy)]
 pub struct RhoLine {
     pub hi: f64,
     pub lo: f64,

@@ -1,4 +1,7 @@
 //! The numbers of the sheet: each is read at a position of a text, and the answer has the position after it.
+
+#![tactic(auto)]
+
 ghost use Rattle.std.specs.Prelude.{◌≡◌, ◌≤◌, get_or};
 ghost use Rattle.std.specs.Float.{binary64};
 ghost use Rattle.std.specs.Float.Ieee.{of_bits};
@@ -7,7 +10,7 @@ ghost use Rattle.text_numbers.specs.Numbers.{digit_of, number, double, count};
 use text_words::STOP;
 
 /// A whole number.
-#[derive(Drop)]
+#[derive(Clone, Copy)]
 pub struct Count {
     pub value: usize,
     /// The position after it.
@@ -15,7 +18,7 @@ pub struct Count {
 }
 
 /// A double.
-#[derive(Drop)]
+#[derive(Clone, Copy)]
 pub struct Double {
     pub value: f64,
     /// The position after it.

@@ -8,7 +8,7 @@ use text_spaced::{count_after, line_end};
 use text_words::{STOP, expect};
 
 /// What stands before a row's pairs.
-#[derive(Drop)]
+#[derive(Clone, Copy)]
 pub struct RowHead {
     pub right: f64,
     pub scale: f64,
@@ -17,7 +17,7 @@ pub struct RowHead {
 }
 
 /// A column of a row, and its entry there.
-#[derive(Drop)]
+#[derive(Clone, Copy)]
 pub struct Pair {
     pub column: usize,
     pub entry: f64,

@@ -8,7 +8,7 @@ use text_spaced::count_after;
 use text_words::{Choice, STOP, either, expect};
 
 /// A variable and a side of it that is widened.
-#[derive(Drop)]
+#[derive(Clone, Copy)]
 pub struct WidenedLine {
     pub variable: usize,
     /// 1 for up, 0 for down.
@@ -18,7 +18,7 @@ pub struct WidenedLine {
 }
 
 /// The leaving row and its direction.
-#[derive(Drop)]
+#[derive(Clone, Copy)]
 pub struct LeaveLine {
     pub row: usize,
     /// 1 for up, 0 for down.

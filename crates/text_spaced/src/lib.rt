@@ -1,5 +1,8 @@
 //! Items with the words around them that several lines share. Every word that a function lends makes its proof longer, so a
 //! line of many items reads them through these.
+
+#![tactic(auto)]
+
 ghost use Rattle.std.specs.Prelude.{◌≡◌};
 ghost use Rattle.text_words.specs.Text.{bytes};
 ghost use Rattle.text_words.specs.Words.{expect};

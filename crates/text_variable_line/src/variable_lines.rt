@@ -11,7 +11,7 @@ use text_spaced::double_space;
 use text_words::{Choice, either, expect};
 
 /// What a variable's line says of it.
-#[derive(Drop)]
+#[derive(Clone, Copy)]
 pub struct VariableLine {
     /// 1 if it is integer, else 0; a slack is not.
     pub integer: u8,

@@ -1,4 +1,7 @@
 //! The lines of the variables, read into lent slices: the structural variables' first, then the slacks'.
+
+#![tactic(auto)]
+
 ghost use Rattle.std.specs.Prelude.{◌≡◌, cond, ◌≤◌, ltb, set};
 ghost use Rattle.repeats.specs.Filled.{column};
 ghost use Rattle.text_variable_line.specs.declared.variable_lines.VariableLine.{VariableLine};

@@ -1,4 +1,7 @@
 //! The words of the sheet: each is read at a position of a text, and the answer has the position after it.
+
+#![tactic(auto)]
+
 ghost use Rattle.std.specs.Prelude.{◌≡◌};
 ghost use Rattle.text_words.specs.Words.{byte_at, expect, either};
 
@@ -9,7 +12,7 @@ pub const MOST_BYTES: usize = 65_536;
 pub const STOP: usize = MOST_BYTES + 1;
 
 /// One of two words.
-#[derive(Drop)]
+#[derive(Clone, Copy)]
 pub struct Choice {
     /// 1 for the first, 0 for the second.
     pub value: u8,

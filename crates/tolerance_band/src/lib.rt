@@ -1,4 +1,7 @@
 //! The edge of a bound's band, as the Rust has it. The function takes every number and asks nothing of its caller.
+
+#![tactic(auto)]
+
 ghost use Rattle.std.specs.Prelude.{◌≡◌, T};
 ghost use Rattle.std.specs.Float.Ieee.{le};
 ghost use Rattle.std.specs.Float.Ieee.Scale.{finite};

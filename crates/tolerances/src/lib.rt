@@ -1,5 +1,8 @@
 //! The tolerances that the certificate rests on, as the Rust has them. Every function takes every number and asks nothing of its
 //! caller.
+
+#![tactic(auto)]
+
 ghost use Rattle.std.specs.Prelude.{◌≡◌};
 ghost use Rattle.tolerances.specs.Tolerances.{implied_slack_error, row_tolerance, slack_margin, slack_tol, toward, trimmed_room};
 
@@ -7,7 +10,7 @@ use double_bits::{max, min};
 use std::num::nearest_u64_to_f64;
 
 /// A variable's tolerances at its lower and upper bound.
-#[derive(Drop)]
+#[derive(Clone, Copy)]
 pub struct BoundTols {
     pub lo: f64,
     pub hi: f64,

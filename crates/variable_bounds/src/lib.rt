@@ -1,4 +1,7 @@
 //! The bounds of a variable, and its tolerances toward them.
+
+#![tactic(auto)]
+
 ghost use Rattle.std.specs.Prelude.{◌≡◌, ◌<◌, length};
 ghost use Rattle.tolerances.specs.Tolerances.{toward};
 ghost use Rattle.variable_bounds.specs.Model.{bound_at, tols_at};

@@ -16,7 +16,7 @@ use sheet_answers::first_no;
 
 /// The number of the first question whose answer is no, or 0 and the verdict.
 #[repr(C)]
-#[derive(Drop)]
+#[derive(Clone, Copy)]
 pub struct Verdict {
     pub refusal: u32,
     pub holds: bool,

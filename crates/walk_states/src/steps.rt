@@ -9,7 +9,7 @@ use upward_rounding::{add_up, distance_up, mul_up};
 
 /// What the certificate has for a variable: its coefficient, the magnitude and count of the terms it was summed from,
 /// and how far the multipliers' errors may carry it.
-#[derive(Drop)]
+#[derive(Clone, Copy)]
 pub struct Coefficient {
     pub p: CDouble,
     pub magnitude: f64,
@@ -18,7 +18,7 @@ pub struct Coefficient {
 }
 
 /// The sums and counts of the walk so far.
-#[derive(Drop)]
+#[derive(Clone, Copy)]
 pub struct Walk {
     /// the magnitude and count of all terms
     pub magnitude: f64,
@@ -37,7 +37,7 @@ pub struct Walk {
 }
 
 /// How the walk ended: after all variables, at a number that is not finite, or at a variable that has no limit.
-#[derive(Drop)]
+#[derive(Clone, Copy)]
 pub enum End {
     Through,
     Spoilt,
@@ -45,7 +45,7 @@ pub enum End {
 }
 
 /// The sums of a walk, and how it ended.
-#[derive(Drop)]
+#[derive(Clone, Copy)]
 pub struct Walked {
     pub walk: Walk,
     pub end: End,

@@ -1,4 +1,7 @@
 //! A step of the walk, over one variable.
+
+#![tactic(auto)]
+
 ghost use Rattle.std.specs.Prelude.{◌≡◌, ◌+◌};
 ghost use Rattle.variable_bounds.specs.Model.{model};
 ghost use Rattle.added_row.specs.Added.{lists};

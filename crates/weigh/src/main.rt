@@ -10,7 +10,7 @@ use weigh_text::{MOST_ANSWER, weigh_text};
 const ROOM: usize = MOST_BYTES + 1;
 
 // How many bytes stand at the front of the text, and whether a read failed.
-#[derive(Drop)]
+#[derive(Clone, Copy)]
 struct Input {
     length: usize,
     failed: bool,

@@ -8,7 +8,7 @@ use upward_rounding::add_up;
 use walk_states::End;
 
 /// The gap: a pair, none because a variable has no limit, or none because a number is not finite.
-#[derive(Drop)]
+#[derive(Clone, Copy)]
 pub enum GapSum {
     Finite(CDouble),
     Unlimited,
@@ -16,7 +16,7 @@ pub enum GapSum {
 }
 
 /// Whether the certificate holds, and what its gap must exceed.
-#[derive(Drop)]
+#[derive(Clone, Copy)]
 pub struct Weight {
     pub holds: bool,
     pub allowance: f64,

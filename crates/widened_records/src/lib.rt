@@ -14,7 +14,7 @@ use questions::{MOST_ROWS, MOST_STRUCTURALS};
 
 /// An item of the widened list: a variable, and the side, up where the flag is set.
 #[repr(C)]
-#[derive(Drop)]
+#[derive(Clone, Copy)]
 pub struct Widened {
     pub variable: usize,
     pub up: u8,

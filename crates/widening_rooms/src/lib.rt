@@ -1,4 +1,7 @@
 //! How far a bound may move out.
+
+#![tactic(auto)]
+
 ghost use Rattle.std.specs.Prelude.{◌≡◌};
 ghost use Rattle.variable_bounds.specs.Model.{model};
 ghost use Rattle.widening_rooms.specs.Rooms.{widening_room};

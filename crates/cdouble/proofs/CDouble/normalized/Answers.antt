@@ -1,0 +1,8 @@
+-- `normalized` meets its contract. Assumes nothing.
+use Rattle.std.proofs.Common.{rules}
+use Rattle.cdouble.specs.Compensated.{normalized}
+use Rattle.cdouble.proofs.CDouble.normalized.Goals as goal
+
+pub returns : goal.returns
+unfolding normalized
+returns c = c.two_sum.ensures

@@ -1,0 +1,13 @@
+-- `sum_down` meets its contract. Assumes nothing.
+use borrow.Author.Rules.{rules}
+use mathlib.Core.Path.{refl}
+use lib.Ieee.{of_bits}
+use Rattle.doubles.proofs.Tests.{fit}
+use Rattle.cdouble.specs.Exactness.{SumRange}
+use Rattle.directed.proofs.Limits.{most_addend}
+use Rattle.directed.proofs.Running.{sum_ready}
+use Rattle.directed.proofs.sums.sum_down.Goals as goal
+
+pub near_sum_down-requires : goal.near_sum_down-requires
+unfolding of_bits
+near_sum_down-requires c = sum_ready c.args.a c.args.b most_addend (fit c.args.a c.well_formed.0.1) (fit c.args.b c.well_formed.1.0.1) c.within.ensures c.within-2.ensures c.if-within-a.true

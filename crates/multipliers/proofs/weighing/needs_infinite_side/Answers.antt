@@ -1,0 +1,21 @@
+-- `needs_infinite_side` meets its contract. Assumes nothing.
+use mathlib.Core.Path.{refl}
+use lib.Ieee.{nan_bits, of_bits}
+use Rattle.cdouble.proofs.Contracts.{when_true, when_false}
+use Rattle.multipliers.proofs.weighing.needs_infinite_side.Goals as goal
+
+pub float_from_bits-result : goal.float_from_bits-result
+unfolding nan_bits
+float_from_bits-result c = tt
+
+pub float_from_bits-result-else-y_value : goal.float_from_bits-result-else-y_value
+unfolding nan_bits
+float_from_bits-result-else-y_value c = tt
+
+pub returns-then-y_value : goal.returns-then-y_value
+unfolding of_bits
+returns-then-y_value c = when_true _ refl c.if-y_value.true
+
+pub returns-else-y_value : goal.returns-else-y_value
+unfolding of_bits
+returns-else-y_value c = when_false _ refl c.if-y_value.false

@@ -1,0 +1,15 @@
+-- `all_plain` meets its contract. Assumes nothing.
+use borrow.Author.Rules.{rules}
+use Prim.Native.Nat.{◌-◌}
+use lib.ListN.{length}
+use Rattle.questions.specs.Questions.{plain_at, all_plain}
+use Rattle.questions.proofs.All.{Passed, first, next, stop, done}
+use mathlib.Core.Path.{ap}
+use mathlib.Core.Bool.{not}
+use Rattle.questions.proofs.lists.all_plain.Given as goal
+
+abbrev pub invariant-loop-k : goal.invariant-loop-k
+invariant-loop-k l = Passed (plain_at l.xs) (length l.xs) l.k
+
+abbrev pub decreases-loop-k : goal.decreases-loop-k
+decreases-loop-k l = length l.xs - l.k

@@ -1,0 +1,15 @@
+-- `products_finite` meets its contract. Assumes nothing.
+use borrow.Author.Rules.{rules}
+use Prim.Native.Nat.{◌-◌}
+use lib.ListN.{length}
+use Rattle.questions.specs.Questions.{product_finite_at}
+use Rattle.questions.proofs.All.{Passed, first, next, stop, done}
+use mathlib.Core.Path.{ap}
+use mathlib.Core.Bool.{not}
+use Rattle.questions.proofs.lists.products_finite.Given as goal
+
+abbrev pub invariant-loop-k : goal.invariant-loop-k
+invariant-loop-k l = Passed (product_finite_at l.x l.ys) (length l.ys) l.k
+
+abbrev pub decreases-loop-k : goal.decreases-loop-k
+decreases-loop-k l = length l.ys - l.k

@@ -1,0 +1,9 @@
+-- `starts_fine` meets its contract. Assumes nothing.
+use borrow.Author.Rules.{rules}
+use mathlib.Core.Path.{refl}
+use Rattle.row_questions.specs.Questions.{starts_fine}
+use Rattle.row_questions.proofs.rows.starts_fine.Goals as goal
+
+pub returns : goal.returns
+unfolding starts_fine
+returns c = rw c.never_fall.ensures refl

@@ -1,0 +1,11 @@
+-- `lengths_fine` meets its contract. Assumes nothing.
+use borrow.Author.Rules.{rules}
+use lib.ListN.{length}
+use lib.Dec.{eqb}
+use Rattle.sheet.specs.Lengths.{lengths_fit}
+use Rattle.sheet.proofs.Ask.{together}
+use Rattle.sheet.proofs.answers.lengths_fine.Goals as goal
+
+pub returns : goal.returns
+unfolding lengths_fit
+returns c = together (eqb (length c.args.integer.now) c.args.sizes.structurals) (eqb (length c.args.widened_ups.now) (length c.args.widened_vars.now)) c.rows_fit.ensures c.variables_fit.ensures c.outputs_fit.ensures
