@@ -1,11 +1,8 @@
 -- `all_finite` meets its contract. Assumes nothing.
-use borrow.Author.Rules.{rules}
 use Prim.Native.Nat.{◌-◌}
 use lib.ListN.{length}
-use Rattle.questions.specs.Questions.{finite_at, all_finite}
-use Rattle.questions.proofs.All.{Passed, first, next, stop, done}
-use mathlib.Core.Path.{ap}
-use mathlib.Core.Bool.{not}
+use Rattle.questions.specs.Questions.{finite_at}
+use Rattle.questions.proofs.All.{Passed}
 use Rattle.questions.proofs.lists.all_finite.Given as goal
 
 abbrev pub invariant-loop-k : goal.invariant-loop-k

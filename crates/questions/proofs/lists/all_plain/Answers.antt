@@ -1,9 +1,6 @@
 -- `all_plain` meets its contract. Assumes nothing.
-use borrow.Author.Rules.{rules}
-use Prim.Native.Nat.{◌-◌}
-use lib.ListN.{length}
-use Rattle.questions.specs.Questions.{plain_at, all_plain}
-use Rattle.questions.proofs.All.{Passed, first, next, stop, done}
+use Rattle.questions.specs.Questions.{all_plain}
+use Rattle.questions.proofs.All.{first, next, stop, done}
 use mathlib.Core.Path.{ap}
 use mathlib.Core.Bool.{not}
 use Rattle.questions.proofs.lists.all_plain.Goals as goal

@@ -1,11 +1,8 @@
 -- `all_plain` meets its contract. Assumes nothing.
-use borrow.Author.Rules.{rules}
 use Prim.Native.Nat.{◌-◌}
 use lib.ListN.{length}
-use Rattle.questions.specs.Questions.{plain_at, all_plain}
-use Rattle.questions.proofs.All.{Passed, first, next, stop, done}
-use mathlib.Core.Path.{ap}
-use mathlib.Core.Bool.{not}
+use Rattle.questions.specs.Questions.{plain_at}
+use Rattle.questions.proofs.All.{Passed}
 use Rattle.questions.proofs.lists.all_plain.Given as goal
 
 abbrev pub invariant-loop-k : goal.invariant-loop-k

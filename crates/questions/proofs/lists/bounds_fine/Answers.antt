@@ -1,9 +1,6 @@
 -- `bounds_fine` meets its contract. Assumes nothing.
-use borrow.Author.Rules.{rules}
-use Prim.Native.Nat.{◌-◌}
-use lib.ListN.{length}
-use Rattle.questions.specs.Questions.{range_fine_at, bounds_fine}
-use Rattle.questions.proofs.All.{Passed, first, next, stop, done}
+use Rattle.questions.specs.Questions.{bounds_fine}
+use Rattle.questions.proofs.All.{first, next, stop, done}
 use mathlib.Core.Path.{ap}
 use mathlib.Core.Bool.{not}
 use Rattle.questions.proofs.lists.bounds_fine.Goals as goal

@@ -1,11 +1,8 @@
 -- `bounds_fine` meets its contract. Assumes nothing.
-use borrow.Author.Rules.{rules}
 use Prim.Native.Nat.{◌-◌}
 use lib.ListN.{length}
-use Rattle.questions.specs.Questions.{range_fine_at, bounds_fine}
-use Rattle.questions.proofs.All.{Passed, first, next, stop, done}
-use mathlib.Core.Path.{ap}
-use mathlib.Core.Bool.{not}
+use Rattle.questions.specs.Questions.{range_fine_at}
+use Rattle.questions.proofs.All.{Passed}
 use Rattle.questions.proofs.lists.bounds_fine.Given as goal
 
 abbrev pub invariant-loop-v : goal.invariant-loop-v

@@ -1,5 +1,4 @@
 -- `is_plain` meets its contract. Assumes nothing.
-use borrow.Author.Rules.{rules}
 use Rattle.doubles.proofs.Tests.{fit}
 use Rattle.doubles.proofs.Patterns.{finite_no_nan}
 use Rattle.questions.proofs.Tests.{plain-finite, plain_infinite, passes}

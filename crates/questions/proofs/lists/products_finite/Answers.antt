@@ -1,9 +1,5 @@
 -- `products_finite` meets its contract. Assumes nothing.
-use borrow.Author.Rules.{rules}
-use Prim.Native.Nat.{◌-◌}
-use lib.ListN.{length}
-use Rattle.questions.specs.Questions.{product_finite_at}
-use Rattle.questions.proofs.All.{Passed, first, next, stop, done}
+use Rattle.questions.proofs.All.{first, next, stop, done}
 use mathlib.Core.Path.{ap}
 use mathlib.Core.Bool.{not}
 use Rattle.questions.proofs.lists.products_finite.Goals as goal

@@ -1,5 +1,4 @@
 -- `tolerances_fine` meets its contract. Assumes nothing.
-use borrow.Author.Rules.{rules}
 use mathlib.Core.Path.{refl}
 use Rattle.questions.specs.Questions.{tolerances_fine}
 use Rattle.questions.proofs.lists.tolerances_fine.Goals as goal
