@@ -1,5 +1,8 @@
 //! The kept numbers of a sheet lent in slices: the certificate that its multipliers suggest, and the judgement of it. The
 //! first question that the sheet fails is answered instead, and then nothing lent is changed.
+
+#![tactic(auto)]
+
 ghost use Rattle.std.specs.Prelude.{◌≡◌};
 ghost use Rattle.sheet.specs.Sheet.{sheet};
 ghost use Rattle.sheet_answers.specs.Answers.{Accepted};
