@@ -5,7 +5,7 @@ use mathlib.Core.List.{List, [], ◌∷◌}
 use mathlib.Core.Bool.{true, false}
 use Prim.Native.Nat.{ℕ}
 use lib.Ieee.{Float, binary64, of_bits}
-use Rattle.sheet.specs.Sheet.{Sheet, sheet}
+use Rattle.sheet.specs.Sheet.{sheet}
 use Rattle.repeats.specs.Counted.{run, after, gather}
 use Rattle.repeats.specs.Chained.{chain, chain_end}
 use Rattle.text_words.specs.Text.{bytes}

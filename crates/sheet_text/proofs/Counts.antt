@@ -9,7 +9,6 @@ use lib.ListN.{get_or}
 use borrow.Author.Tests.{lt-leb, le-leb}
 use Rattle.text_numbers.specs.Numbers.{digit_of, digits, at_least_one, number, count}
 use Rattle.text_items.specs.Items.{count_then}
-use Rattle.text_numbers.specs.declared.Count.{Count}
 use Rattle.text_heading.specs.declared.heading.Heading.{Heading}
 use Rattle.text_heading.specs.Lines.{heading}
 

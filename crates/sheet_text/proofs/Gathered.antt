@@ -13,8 +13,8 @@ use Rattle.text_lists.specs.declared.widened_list.Reached.{Reached}
 use Rattle.text_lists.specs.Rows.{row_lines, rows_reached, rows_pairs}
 use Rattle.text_lists.specs.Widened.{widened_lines, widened_reached}
 use Rattle.text_lists.specs.Multipliers.{rho_lines, rho_lines_end}
-use Rattle.sheet_text.specs.declared.Read.{Read}
-use Rattle.sheet_text.specs.Parts.{structural_lines_in, variable_lines_in, rows_from, row_lines_in, pairs_in, rows_reached_in, widened_lines_in, widened_reached_in, multipliers_in, rho_lines_in, leave_in}
+use Rattle.sheet_text.specs.Parts.{structural_lines_in, variable_lines_in, rows_from, row_lines_in, pairs_in, rows_reached_in, widened_lines_in, widened_reached_in, multipliers_in}
+use Rattle.sheet_text.specs.Parts.{rho_lines_in, leave_in}
 use Rattle.sheet_text.specs.Form.{read_in}
 
 -- what the code reads, in its order

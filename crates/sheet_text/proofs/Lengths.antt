@@ -11,21 +11,16 @@ use lib.ListN.{length, length-map}
 use lib.Ieee.{Float}
 use Rattle.questions.specs.Limits.{most_rows, most_structurals}
 use Rattle.questions.specs.Questions.{sizes_fine}
-use Rattle.sheet.specs.declared.answers.Outputs.{Outputs}
-use Rattle.sheet.specs.Sheet.{Sheet}
 use Rattle.sheet.specs.Lengths.{rows_fit, variables_fit, outputs_fit, lengths_fit, lengths_fine}
-use Rattle.sheet_answers.proofs.Accepted.{SizesHold, sizes_hold, RowsHold, VariablesHold}
+use Rattle.sheet_answers.proofs.Accepted.{sizes_hold, RowsHold, VariablesHold}
 use Rattle.repeats.proofs.Runs.{run_length}
-use Rattle.text_heading.specs.declared.heading.Heading.{Heading}
 use Rattle.text_heading.specs.Lines.{heading}
 use Rattle.text_variable_line.specs.Lines.{line_at}
 use Rattle.text_variables.specs.Variables.{after_variable}
-use Rattle.text_lists.specs.declared.widened_list.Reached.{Reached}
 use Rattle.text_lists.specs.Rows.{row_at, after_row}
 use Rattle.text_lists.specs.Widened.{widened_reached}
 use Rattle.text_lists.specs.Multipliers.{rho_at, after_rho}
 use Rattle.text_lists.proofs.Reaching.{rows-count}
-use Rattle.sheet_text.specs.declared.Read.{Read}
 use Rattle.sheet_text.specs.Parts.{structural_lines_in, variable_lines_in, rows_from, row_lines_in, pairs_in, rows_reached_in, widened_lines_in, widened_reached_in, rho_lines_in}
 use Rattle.sheet_text.specs.Form.{read_in}
 use Rattle.sheet_text.specs.SheetIn.{lent_outputs, sheet_in}

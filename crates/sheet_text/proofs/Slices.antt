@@ -14,7 +14,6 @@ use Rattle.text_variable_line.specs.declared.variable_lines.VariableLine.{Variab
 use Rattle.text_rows.specs.declared.row_items.Pair.{Pair}
 use Rattle.text_multipliers.specs.declared.multiplier_lines.RhoLine.{RhoLine}
 use Rattle.text_lists.specs.declared.row_lists.RowLine.{RowLine}
-use Rattle.sheet_text.specs.declared.Read.{Read}
 use Rattle.sheet_text.specs.Parts.{structural_lines_in, variable_lines_in, row_lines_in, pairs_in, rho_lines_in}
 use Rattle.sheet_text.specs.Form.{form_met, read_in, follows_form}
 use Rattle.sheet_text.proofs.Lengths.{structurals_long, variables-long, rows_long, pairs-long, rhos_long}

@@ -1,11 +1,7 @@
 -- Whether a text follows the sheet form: document 01, the first question. Assumes nothing.
 use Rattle.std.specs.Prelude.{Bool, ◌&&◌, List, ℕ, leb, eqb, length}
 use Rattle.text_words.specs.Words.{most_bytes}
-use Rattle.text_words.specs.declared.Choice.{Choice}
-use Rattle.text_heading.specs.declared.heading.Heading.{Heading}
-use Rattle.text_sides.specs.declared.sided_lines.LeaveLine.{LeaveLine}
 use Rattle.text_heading.specs.Lines.{heading}
-use Rattle.text_lists.specs.declared.widened_list.Reached.{Reached}
 use Rattle.sheet_text.specs.declared.Read.{Read}
 use Rattle.sheet_text.specs.Parts.{rows_reached_in, widened_reached_in, multipliers_in, leave_in}
 

@@ -1,7 +1,6 @@
 -- The parts of a text, "lines in the example's order": document 01, "The sheet". Each begins where the one before it ends. Assumes nothing.
 use Rattle.std.specs.Prelude.{List, ℕ, ◌+◌}
 use Rattle.text_words.specs.declared.Choice.{Choice}
-use Rattle.text_heading.specs.declared.heading.Heading.{Heading}
 use Rattle.text_variable_line.specs.declared.variable_lines.VariableLine.{VariableLine}
 use Rattle.text_rows.specs.declared.row_items.Pair.{Pair}
 use Rattle.text_sides.specs.declared.sided_lines.WidenedLine.{WidenedLine}

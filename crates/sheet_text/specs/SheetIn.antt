@@ -1,7 +1,6 @@
 -- The sheet that a text says: document 01, "The sheet". Assumes nothing.
 use Rattle.std.specs.Prelude.{List, ◌∷◌, map, ℕ, ◌+◌}
 use Rattle.questions.specs.Limits.{most_rows, most_structurals}
-use Rattle.sheet.specs.declared.answers.Sizes.{Sizes}
 use Rattle.sheet.specs.declared.answers.Outputs.{Outputs}
 use Rattle.sheet.specs.Sheet.{Sheet, sheet}
 use Rattle.text_variable_line.specs.declared.variable_lines.VariableLine.{VariableLine}
@@ -9,7 +8,6 @@ use Rattle.text_rows.specs.declared.row_items.Pair.{Pair}
 use Rattle.text_sides.specs.declared.sided_lines.WidenedLine.{WidenedLine}
 use Rattle.text_multipliers.specs.declared.multiplier_lines.RhoLine.{RhoLine}
 use Rattle.text_lists.specs.declared.row_lists.RowLine.{RowLine}
-use Rattle.sheet_text.specs.declared.Read.{Read}
 use Rattle.sheet_text.specs.Parts.{structural_lines_in, variable_lines_in, row_lines_in, pairs_in, widened_lines_in, rho_lines_in}
 use Rattle.sheet_text.specs.Form.{read_in}
 

@@ -1,4 +1,7 @@
 //! The sheet as a text: whether it follows the form of document 01, and the sheet that it says, read into lent slices.
+
+#![tactic(auto)]
+
 ghost use Rattle.std.specs.Prelude.{◌≡◌};
 ghost use Rattle.repeats.specs.Filled.{column, filled_from};
 ghost use Rattle.text_variable_line.specs.declared.variable_lines.VariableLine.{VariableLine};
