@@ -29,7 +29,7 @@ module _ (s : Sheet) (accepted : Accepted s) (doubles : Doubles s) (kept : KeptR
 
   pub rules_out : RulesOut kept (rows_of s) (ranges_of s)
   rules_out =
-      points.rules_out kept (rows_of s) (ranges_of s) (bounded.outward-shape kept (rows_of s) (ranges_of s) (sound_rows s accepted) (sound_ranges s accepted doubles)) never_above misses_at_least
+      points.rules_out kept (rows_of s) (ranges_of s) (bounded.outward_shape kept (rows_of s) (ranges_of s) (sound_rows s accepted) (sound_ranges s accepted doubles)) never_above misses_at_least
 
 -- narrower ranges, on a sheet with equal rows and for equal kept multipliers
 pub not_lowered : (s t : Sheet) → Accepted s → Doubles s → Accepted t → Doubles t → (kept other : KeptRows) → SameRows (rows_of s) (rows_of t) → SameKept s.rows kept other
