@@ -1,4 +1,7 @@
 //! Both edges of a variable at once: the widened list and a slack's row are gone through one time for the two.
+
+#![tactic(auto)]
+
 ghost use Rattle.std.specs.Prelude.{◌≡◌, cond, false, true, get_or, length};
 ghost use Rattle.std.specs.Float.{nan};
 ghost use Rattle.std.specs.Float.Ieee.Scale.{finite};

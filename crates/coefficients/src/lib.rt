@@ -1,5 +1,8 @@
 //! Both ends of each coefficient of the combined row, and its right side: the kept rows, each times its multiplier, added
 //! up with every product and sum rounded outward.
+
+#![tactic(auto)]
+
 ghost use Rattle.std.specs.Prelude.{◌≡◌, [], ◌<◌, length};
 ghost use Rattle.doubles.specs.Directed.{product_down, product_up, sum_down, sum_up};
 ghost use Rattle.certificate.specs.System.{multiplier_at, system};

@@ -1,4 +1,7 @@
 //! The largest value that the combined row can take within the widened ranges, rounded up.
+
+#![tactic(auto)]
+
 ghost use Rattle.std.specs.Prelude.{◌≡◌};
 ghost use Rattle.doubles.specs.Compare.{larger};
 ghost use Rattle.variable_bounds.specs.Model.{model};

@@ -1,5 +1,8 @@
 //! The outward gap of a sheet lent in slices: both ends of each coefficient of the combined row, the right side, and the
 //! largest value of the row, each rounded to the side that makes the gap smaller.
+
+#![tactic(auto)]
+
 mod answer;
 mod reckoning;
 

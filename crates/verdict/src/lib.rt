@@ -1,5 +1,8 @@
 //! The full verdict on a sheet lent in slices: the kept numbers, the outward gap, and whether the order is declined. The
 //! first question that the sheet fails is answered instead, and then nothing lent is changed.
+
+#![tactic(auto)]
+
 ghost use Rattle.std.specs.Prelude.{◌≡◌, T};
 ghost use Rattle.sheet.specs.Sheet.{sheet};
 ghost use Rattle.added_row.specs.Added.{lists};

@@ -1,0 +1,16 @@
+-- `add_row` meets its contract. Assumes nothing.
+use Rattle.row_questions.specs.Rows.{part}
+use Rattle.coefficients.proofs.Rows.{entries_fit, row_added}
+use borrow.Author.Rules.{rules}
+use Rattle.coefficients.proofs.add_row.Goals as goal
+
+pub multiplier_at-m-requires : goal.multiplier_at-m-requires
+multiplier_at-m-requires c = c.requires.row.multiplier
+
+pub keep_row-requires : goal.keep_row-requires
+unfolding part
+keep_row-requires c = entries_fit c.requires
+
+pub returns : goal.returns
+unfolding part
+returns c = row_added c.multiplier_at-m.ensures c.keep_row.ensures c.with_right_side.ensures
