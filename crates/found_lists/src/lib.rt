@@ -1,5 +1,8 @@
 //! The items that a search of a widened list has found, written out as the list of their variables and the list of their
 //! sides.
+
+#![tactic(auto)]
+
 ghost use Rattle.std.specs.Prelude.{◌≡◌, ◌+◌, ◌*◌, ◌≤◌, ◌<◌, length};
 ghost use Rattle.std.proofs.lemmas.List.Edits.{sets};
 ghost use Rattle.questions.specs.Limits.{most_rows, most_structurals};

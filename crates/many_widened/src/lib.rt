@@ -1,5 +1,8 @@
 //! How many items of a widened list are looked at. A list of more than two items for each variable is refused, and so is its
 //! front, so a longer one need not be gone through.
+
+#![tactic(auto)]
+
 ghost use Rattle.std.specs.Prelude.{◌≡◌};
 ghost use Rattle.many_widened.specs.Fewest.{fewest};
 

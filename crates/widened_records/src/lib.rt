@@ -1,5 +1,8 @@
 //! The widened list as records of a variable and a side, and the search of it. A function that holds a slice of records is
 //! proved by hand, so there is one that goes through it, once, for every variable and side at a time.
+
+#![tactic(auto)]
+
 ghost use Rattle.std.specs.Prelude.{◌≡◌, Bool, false, not, ℕ, ◌<◌, get_or, take};
 ghost use Rattle.place_questions.specs.Tallies.{mark_of};
 ghost use Rattle.place_questions.specs.Questions.{widened_fine};

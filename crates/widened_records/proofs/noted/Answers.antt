@@ -14,8 +14,7 @@ use Rattle.widened_records.specs.declared.Found.{Found}
 use Rattle.widened_records.specs.declared.Widened.{Widened}
 use Rattle.widened_records.specs.Found.{mark_for, noted_in}
 use Rattle.widened_records.proofs.Counts.{count_few}
-use Rattle.widened_records.proofs.noted.Statement.{statement}
-use Rattle.widened_records.proofs.noted.Tie as tie
+use Rattle.widened_records.proofs.noted.Goals as goal
 
 side : (up : Bool) → cond up 1 0 ≤ 1
 side true = omega arith
@@ -37,42 +36,18 @@ of_none : {count all : ℕ} (f : Found) (w : Widened) → count ≡ all → coun
 unfolding noted_in
 of_none {all = all} f w same l = rw (le-ltb w.variable all (omega (arith, same, l))) refl
 
-variable-count-requires : tie.Need-variable-count-requires
-variable-count-requires c κs = search rules
+pub mark_of-at-requires : goal.mark_of-at-requires
+mark_of-at-requires c = omega (arith, count_few c.args.rows c.args.structurals, c.if-v-variable_count.true, c.variable_count.ensures)
 
-mark-of-requires : tie.Need-mark-of-requires
-mark-of-requires c κs =
-    let a = c.before.before.args in
-    omega (arith, count_few a.rows a.structurals, c.if1.true, c.before.variable-count.ensures)
+pub bounds-found-at : goal.bounds-found-at
+bounds-found-at c = within c.args.rows c.args.structurals (is_set c.args.w.up) c.variable_count.ensures c.if-v-variable_count.true c.mark_of-at.ensures
 
-element-copy-out-again : tie.Need-element-copy-out-preserved
-element-copy-out-again c =
-    let a = c.before.before.before.args in
-    within a.rows a.structurals (is_set a.w.up) c.before.before.variable-count.ensures c.before.if1.true c.mark_of.ensures
+pub bounds-found-at-then-v-variable_count : goal.bounds-found-at-then-v-variable_count
+bounds-found-at-then-v-variable_count c = within c.args.rows c.args.structurals (is_set c.args.w.up) c.variable_count.ensures c.if-v-variable_count.true
+    c.mark_of-at.ensures
 
-element-write-found : tie.Need-element-write-found
-element-write-found c =
-    let a = c.before.before.before.before.args in
-    within a.rows a.structurals (is_set a.w.up) c.before.before.before.variable-count.ensures c.before.before.if1.true
-    c.before.mark_of.ensures
+pub returns-then-v-variable_count : goal.returns-then-v-variable_count
+returns-then-v-variable_count c = of-a-variable c.args.found c.args.w c.variable_count.ensures c.if-v-variable_count.true c.mark_of-at.ensures
 
-returns : tie.Need-returns
-returns c =
-    let a = c.before.before.before.before.args in
-    of-a-variable a.t1 a.w c.before.before.before.variable-count.ensures c.before.before.if1.true c.before.mark_of.ensures
-
-returns-2 : tie.Need-returns-2
-returns-2 c =
-    let a = c.before.before.args in
-    of_none a.t1 a.w c.before.variable-count.ensures c.if1.false
-
-pub noted-spec : {M : Type 1} → statement M
-noted-spec =
-    tie.close
-    (tie.spec
-    variable-count-requires
-    mark-of-requires
-    element-copy-out-again
-    element-write-found
-    returns
-    returns-2)
+pub returns-else-v-variable_count : goal.returns-else-v-variable_count
+returns-else-v-variable_count c = of_none c.args.found c.args.w c.variable_count.ensures c.if-v-variable_count.false

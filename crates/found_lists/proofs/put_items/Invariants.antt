@@ -1,0 +1,11 @@
+-- `put_items` meets its contract. Assumes nothing.
+use native.Mathlib.Omega.{arith}
+use Prim.Native.Nat.{◌*◌, ◌-◌}
+use Rattle.found_lists.proofs.Listing.{Listing, first, has_place, next, done, variables-long, sides_long}
+use Rattle.found_lists.proofs.put_items.Given as goal
+
+abbrev pub invariant-loop-m : goal.invariant-loop-m
+invariant-loop-m l = Listing l.marks l.initial.vars l.initial.ups (2 * l.count) l.m l.items l.vars l.ups
+
+abbrev pub decreases-loop-m : goal.decreases-loop-m
+decreases-loop-m l = 2 * l.count - l.m
