@@ -12,7 +12,6 @@ use Rattle.multipliers.specs.declared.weighing.Multiplier.TheVariants.{Zeroed, D
 use Rattle.multipliers.specs.declared.weighing.Spread.{Spread}
 use Rattle.multipliers.specs.declared.weighing.Spread.TheVariants.{Nothing, By}
 use Rattle.added_row.specs.declared.adding.Sums.{Sums}
-use Rattle.multipliers.specs.Multipliers.{spreads}
 
 -- ---- per variable: its coefficient's two parts, the magnitude that was summed, and how many terms
 pub record Lists : Type 0 where

@@ -1,18 +1,17 @@
 -- A sum that its rounded part does not show whole is at least two units from 0, and a sum whose first number is not −0 is not −0. Assumes nothing.
 use mathlib.Core.Path.{◌≡◌, refl, sym, ap, ◌∙◌, subst}
 use mathlib.Core.Logic.{inl, inr}
-use mathlib.Core.Bool.{Bool, true, false, not, true≢false}
+use mathlib.Core.Bool.{Bool, true, false, true≢false}
 use Prim.Native.Nat.{ℕ, zero, suc, ◌+◌, ◌-◌, ◌^◌, ◌≤◌, ◌<◌}
 use native.Mathlib.Nat.{one-dvd}
 use native.Mathlib.Omega.{arith}
 use lib.IntN.{ℤ, pos, nat_abs, ◌+ℤ◌, ◌*ℤ◌, +ℤ_comm}
-use lib.Dec.{T, lit<, lit≤}
-use lib.Ieee.{Float, fin, binary64, of_bits, fits, eq, ne, add}
+use lib.Dec.{T, lit<}
+use lib.Ieee.{Float, binary64, of_bits, fits, eq, ne}
 use lib.Ieee.Fits.{add-fits}
 use lib.Ieee.Scale.{finite}
-use Rattle.exact.specs.Value.{sign, magnitude, signed, exact, exact_at}
+use Rattle.exact.specs.Value.{sign, magnitude, exact}
 use Rattle.exact.specs.Nearest.{nearest_units, to_nearest}
-use Rattle.exact.specs.Representable.{Representable}
 use Rattle.exact.proofs.Naturals.{le_or_lt}
 use Rattle.exact.proofs.Difference.{all, differences}
 use Rattle.exact.proofs.Representable.{representable_pow}

@@ -3,15 +3,15 @@ use mathlib.Core.Path.{◌≡◌, refl, sym, ap, ◌∙◌, subst}
 use mathlib.Core.Logic.{inl, inr}
 use mathlib.Core.Bool.{Bool, true, false, not, cond}
 use Prim.Native.Nat.{ℕ, ◌+◌, ◌-◌, ◌%◌, ◌^◌, ◌≤◌, ◌<◌}
-use native.Mathlib.Nat.{not-le_of_lt, le_of_lt}
+use native.Mathlib.Nat.{le_of_lt}
 use native.Mathlib.Omega.{arith}
 use lib.IntN.{nat_abs}
 use lib.Dec.{T, ltb, lt→ltb, ltb→lt, not_T}
 use lib.Ieee.{Float, nan, inf, fin, binary64, of_bits, to_bits, fits, nan_bits, neg}
-use lib.Ieee.Bits.{is_true, is_false, of_bits-to_bits}
+use lib.Ieee.Bits.{is_true, is_false}
 use lib.Ieee.Fits.{neg-fits}
 use lib.Ieee.Scale.{finite}
-use Rattle.exact.specs.Value.{sign, magnitude, exact}
+use Rattle.exact.specs.Value.{sign, magnitude}
 use Rattle.exact.proofs.Naturals.{le_or_lt}
 use Rattle.exact.proofs.Signed.{signed_abs}
 use Rattle.exact.proofs.Values.{exact_abs, finite-neg}

@@ -12,7 +12,7 @@ use Rattle.exact.specs.Value.{exact}
 use Rattle.exact.proofs.Order.{≼_refl, ≺_not_≼}
 use Rattle.exact.proofs.Compare.{lt_to}
 use Rattle.doubles.specs.Neighbours.{next_up, next_down}
-use Rattle.doubles.specs.Directed.{round_up, round_down, sum_up, sum_down, product_up, product_down, IsUp, IsDown}
+use Rattle.doubles.specs.Directed.{round_up, round_down, sum_up, sum_down, product_up, product_down}
 use Rattle.doubles.proofs.Directed.{round_up_law}
 use Rattle.doubles.proofs.Mirror.{up_zero, down_zero, round_down_law}
 use Rattle.doubles.proofs.Rounding.{up_unique, down_unique}

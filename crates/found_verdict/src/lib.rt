@@ -1,5 +1,8 @@
 //! The verdict on a sheet whose widened list is what a search of it has found. The marks are written out as the two lists
 //! that `verdict::verdict_of` takes, in this crate's own memory.
+
+#![tactic(auto)]
+
 ghost use Rattle.std.specs.Prelude.{◌≡◌, [], T};
 ghost use Rattle.sheet.specs.Sheet.{sheet};
 ghost use Rattle.added_row.specs.Added.{lists};

@@ -1,5 +1,5 @@
 -- `band_edge`: 01, "`band_edge` with tolerance at least 0 and a finite bound steps back at most one double". Assumes nothing.
-use Rattle.std.specs.Prelude.{◌≡◌, Bool, true, false, cond, ℕ, zero, suc, T, Float}
+use Rattle.std.specs.Prelude.{◌≡◌, Bool, cond, ℕ, zero, suc, T, Float}
 use Rattle.std.specs.Float.Ieee.{lt, le}
 use Rattle.std.specs.Float.Ieee.Scale.{finite}
 use Rattle.doubles.specs.Neighbours.{next_up, next_down}

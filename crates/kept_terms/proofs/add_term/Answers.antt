@@ -1,6 +1,5 @@
 -- `add_term` meets its contract. Assumes nothing.
 use Rattle.added_row.proofs.Branches.{term_added}
-use borrow.Author.Rules.{rules}
 use Rattle.kept_terms.proofs.add_term.Goals as goal
 
 pub returns : goal.returns

@@ -1,9 +1,5 @@
 -- `add_terms` meets its contract. Assumes nothing.
-use borrow.Author.Rules.{rules}
-use Prim.Native.Nat.{◌-◌}
-use lib.ListN.{length}
-use Rattle.added_row.specs.Added.{after_terms, lists}
-use Rattle.exact.proofs.Turns.{Turn, done}
+use Rattle.exact.proofs.Turns.{done}
 use Rattle.added_row.proofs.Turns.{first_term, term_asks, next_term, terms_same}
 use Rattle.kept_terms.proofs.add_terms.Goals as goal
 

@@ -1,10 +1,8 @@
 -- `add_terms` meets its contract. Assumes nothing.
-use borrow.Author.Rules.{rules}
 use Prim.Native.Nat.{◌-◌}
 use lib.ListN.{length}
 use Rattle.added_row.specs.Added.{after_terms, lists}
-use Rattle.exact.proofs.Turns.{Turn, done}
-use Rattle.added_row.proofs.Turns.{first_term, term_asks, next_term, terms_same}
+use Rattle.exact.proofs.Turns.{Turn}
 use Rattle.kept_terms.proofs.add_terms.Given as goal
 
 abbrev pub invariant-loop-k : goal.invariant-loop-k

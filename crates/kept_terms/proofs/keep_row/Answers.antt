@@ -1,7 +1,6 @@
 -- `keep_row` meets its contract. Assumes nothing.
 use Rattle.added_row.specs.Added.{Lists, lists}
 use Rattle.added_row.proofs.Branches.{kept_zeroed, kept_dropped, kept-added}
-use borrow.Author.Rules.{rules}
 use Rattle.kept_terms.proofs.keep_row.Goals as goal
 use Rattle.kept_terms.proofs.keep_row.Tie as tie
 use Rattle.kept_terms.proofs.keep_row.Reads as reads

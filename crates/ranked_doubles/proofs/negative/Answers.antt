@@ -1,5 +1,4 @@
 -- `negative` meets its contract: a rank up to the infinity with a sign is no NaN's pattern. Assumes nothing.
-use borrow.Author.Rules.{rules}
 use Prim.Native.Nat.{◌+◌, ◌^◌}
 use native.Mathlib.Omega.{arith}
 use Rattle.doubles.proofs.Patterns.{no_nan_bits}

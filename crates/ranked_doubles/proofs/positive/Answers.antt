@@ -1,5 +1,4 @@
 -- `positive` meets its contract: a rank up to the infinity is no NaN's pattern. Assumes nothing.
-use borrow.Author.Rules.{rules}
 use native.Mathlib.Omega.{arith}
 use Rattle.doubles.proofs.Patterns.{no_nan_bits}
 use Rattle.ranked_doubles.proofs.positive.Goals as goal

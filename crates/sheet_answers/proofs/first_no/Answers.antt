@@ -1,5 +1,4 @@
 -- `first_no` meets its contract. Assumes nothing.
-use borrow.Author.Rules.{rules}
 use native.Mathlib.Omega.{arith}
 use mathlib.Core.Bool.{Bool, false, not}
 use mathlib.Core.Path.{◌≡◌, refl, subst, sym, ◌∙◌}

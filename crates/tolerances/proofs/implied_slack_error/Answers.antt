@@ -1,5 +1,5 @@
 -- `implied_slack_error` meets its contract. Assumes nothing.
-use Rattle.std.proofs.Common.{ap, rules}
+use Rattle.std.proofs.Common.{ap}
 use lib.Ieee.{Float, of_bits}
 use Rattle.cdouble.specs.Compensated.{◌⊕◌, ◌⊗◌}
 use Rattle.tolerances.specs.Tolerances.{two, four, unit_roundoff, implied_slack_error}

@@ -1,5 +1,4 @@
 -- `row_tolerance` meets its contract. Assumes nothing.
-use Rattle.std.proofs.Common.{rules}
 use lib.Ieee.{of_bits}
 use Rattle.tolerances.specs.Tolerances.{row_tolerance}
 use Rattle.tolerances.proofs.row_tolerance.Goals as goal

@@ -1,5 +1,5 @@
 -- `slack_margin` meets its contract. Assumes nothing.
-use Rattle.std.proofs.Common.{ap, ◌∙◌, rules}
+use Rattle.std.proofs.Common.{ap, ◌∙◌}
 use lib.Ieee.{Float, of_bits}
 use Rattle.doubles.specs.Compare.{smaller}
 use Rattle.cdouble.specs.Compensated.{◌⊕◌, ◌⊗◌, as_f64}

@@ -1,5 +1,5 @@
 -- `slack_tol` meets its contract. Assumes nothing.
-use Rattle.std.proofs.Common.{ap, ◌∙◌, rules}
+use Rattle.std.proofs.Common.{ap, ◌∙◌}
 use lib.Ieee.{Float}
 use Rattle.cdouble.specs.Compensated.{◌⊖◌}
 use Rattle.tolerances.specs.Tolerances.{row_tolerance, slack_tol}

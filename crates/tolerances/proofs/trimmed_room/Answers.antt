@@ -1,5 +1,5 @@
 -- `trimmed_room` meets its contract. Assumes nothing.
-use Rattle.std.proofs.Common.{ap, ◌∙◌, rules}
+use Rattle.std.proofs.Common.{ap, ◌∙◌}
 use lib.Ieee.{Float, of_bits}
 use Rattle.doubles.specs.Compare.{larger}
 use Rattle.cdouble.specs.Compensated.{◌⊖◌, plus_zero}

@@ -1,5 +1,4 @@
 -- `bound_of` meets its contract. Assumes nothing.
-use borrow.Author.Rules.{rules}
 use mathlib.Core.Path.{refl}
 use Rattle.cdouble.proofs.Contracts.{when_true, when_false}
 use Rattle.variable_bounds.proofs.bound_of.Goals as goal

@@ -1,5 +1,4 @@
 -- `widening_room` meets its contract. Assumes nothing.
-use borrow.Author.Rules.{rules}
 use native.Mathlib.Omega.{arith}
 use lib.Ieee.{of_bits}
 use Rattle.variable_bounds.specs.Model.{Model, model}

@@ -1,6 +1,5 @@
 -- `add_error` meets its contract. Assumes nothing.
 use Rattle.added_row.proofs.Branches.{share_added, share_none}
-use borrow.Author.Rules.{rules}
 use Rattle.added_row.proofs.adding.add_error.Goals as goal
 
 pub returns-then-basic-v-ne0 : goal.returns-then-basic-v-ne0

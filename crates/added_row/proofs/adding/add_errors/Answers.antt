@@ -1,9 +1,5 @@
 -- `add_errors` meets its contract. Assumes nothing.
-use borrow.Author.Rules.{rules}
-use Prim.Native.Nat.{◌-◌}
-use lib.ListN.{length}
-use Rattle.added_row.specs.Added.{after_errors}
-use Rattle.exact.proofs.Turns.{Turn, done}
+use Rattle.exact.proofs.Turns.{done}
 use Rattle.added_row.proofs.Turns.{first_error, error_asks, next_error, errors_same}
 use Rattle.added_row.proofs.adding.add_errors.Goals as goal
 

@@ -1,10 +1,8 @@
 -- `add_errors` meets its contract. Assumes nothing.
-use borrow.Author.Rules.{rules}
 use Prim.Native.Nat.{◌-◌}
 use lib.ListN.{length}
 use Rattle.added_row.specs.Added.{after_errors}
-use Rattle.exact.proofs.Turns.{Turn, done}
-use Rattle.added_row.proofs.Turns.{first_error, error_asks, next_error, errors_same}
+use Rattle.exact.proofs.Turns.{Turn}
 use Rattle.added_row.proofs.adding.add_errors.Given as goal
 
 abbrev pub invariant-loop-k : goal.invariant-loop-k

@@ -1,6 +1,5 @@
 -- `spread_row` meets its contract. Assumes nothing.
 use Rattle.added_row.proofs.Branches.{spread_none, spread_added}
-use borrow.Author.Rules.{rules}
 use Rattle.added_row.proofs.adding.spread_row.Goals as goal
 
 pub returns-in-Nothing : goal.returns-in-Nothing

@@ -3,7 +3,6 @@ use lib.Ieee.{of_bits}
 use mathlib.Core.Path.{sym, ap}
 use Rattle.added_row.specs.Added.{summed}
 use Rattle.added_row.proofs.Branches.{summed_nought, summed_zeroed, summed_kept}
-use borrow.Author.Rules.{rules}
 use Rattle.added_row.proofs.adding.summed.Goals as goal
 
 pub returns-then-value : goal.returns-then-value

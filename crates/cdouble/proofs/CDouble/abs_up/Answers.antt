@@ -1,5 +1,5 @@
 -- `abs_up` meets its contract. Assumes nothing.
-use Rattle.std.proofs.Common.{◌≡◌, ◌+ℤ◌, refl, rules}
+use Rattle.std.proofs.Common.{◌≡◌, ◌+ℤ◌, refl}
 use lib.Ieee.{Float, of_bits}
 use Rattle.exact.specs.Value.{exact}
 use Rattle.doubles.specs.Directed.{IsUp}

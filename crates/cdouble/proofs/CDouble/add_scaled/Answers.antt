@@ -1,5 +1,5 @@
 -- `add_scaled` meets its contract. Assumes nothing.
-use Rattle.std.proofs.Common.{ap, rules}
+use Rattle.std.proofs.Common.{ap}
 use Rattle.cdouble.specs.declared.CDouble.{CDouble}
 use Rattle.cdouble.specs.Compensated.{◌⊕◌, ◌⊗◌, pair, plus_scaled}
 use Rattle.cdouble.proofs.CDouble.add_scaled.Goals as goal

@@ -1,5 +1,4 @@
 -- `normalized` meets its contract. Assumes nothing.
-use Rattle.std.proofs.Common.{rules}
 use Rattle.cdouble.specs.Compensated.{normalized}
 use Rattle.cdouble.proofs.CDouble.normalized.Goals as goal
 

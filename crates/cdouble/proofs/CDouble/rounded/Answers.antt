@@ -1,5 +1,5 @@
 -- `rounded` meets its contract. Assumes nothing.
-use Rattle.std.proofs.Common.{◌≡◌, not, ◌+ℤ◌, ap, ◌∙◌, inl, inr, rules}
+use Rattle.std.proofs.Common.{◌≡◌, not, ◌+ℤ◌, ap, ◌∙◌}
 use lib.Ieee.{Float, of_bits}
 use Rattle.exact.specs.Value.{exact}
 use Rattle.doubles.proofs.Tests.{fit}

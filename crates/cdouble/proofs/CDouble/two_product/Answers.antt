@@ -1,5 +1,5 @@
 -- `two_product` meets its contract. Assumes nothing.
-use Rattle.std.proofs.Common.{◌*ℤ◌, ap, ◌∙◌, rules}
+use Rattle.std.proofs.Common.{◌*ℤ◌, ap, ◌∙◌}
 use Rattle.exact.specs.Value.{exact}
 use Rattle.doubles.proofs.Tests.{fit}
 use Rattle.cdouble.specs.declared.CDouble.{CDouble}

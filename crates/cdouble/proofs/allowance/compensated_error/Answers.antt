@@ -1,5 +1,5 @@
 -- `compensated_error` meets its contract. Assumes nothing.
-use Rattle.std.proofs.Common.{false, pos, sym, ap, ◌∙◌, rules}
+use Rattle.std.proofs.Common.{false, pos, sym, ap, ◌∙◌}
 use lib.Ieee.{Float, fin, of_bits}
 use Rattle.cdouble.specs.Compensated.{◌⊕◌, ◌⊗◌}
 use Rattle.cdouble.proofs.Contracts.{compensated_is, unit_error_lem}

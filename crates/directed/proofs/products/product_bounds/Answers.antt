@@ -1,5 +1,4 @@
 -- `product_bounds` meets its contract. Assumes nothing.
-use borrow.Author.Rules.{rules}
 use Rattle.doubles.proofs.Tests.{fit}
 use Rattle.directed.proofs.Limits.{both_tested, most_factor}
 use Rattle.directed.proofs.products.product_bounds.Goals as goal

@@ -1,5 +1,4 @@
 -- `near_scaled` meets its contract: no sum leaves the range of `two_sum`. Assumes nothing.
-use borrow.Author.Rules.{rules}
 use lib.Ieee.{of_bits}
 use Rattle.doubles.proofs.Tests.{fit}
 use Rattle.directed.proofs.Running.{first_up, first_down, second_up, second_down, last_up, last_down, nothing_up, nothing_down}

@@ -1,5 +1,4 @@
 -- `with_scaled` meets its contract. Assumes nothing.
-use borrow.Author.Rules.{rules}
 use mathlib.Core.Path.{ap, ap₂, ◌∙◌}
 use Rattle.doubles.specs.Directed.{sum_up, sum_down}
 use Rattle.doubles.proofs.Tests.{fit}

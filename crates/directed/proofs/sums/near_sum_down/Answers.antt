@@ -1,5 +1,4 @@
 -- `near_sum_down` meets its contract. Assumes nothing.
-use borrow.Author.Rules.{rules}
 use mathlib.Core.Path.{◌∙◌}
 use lib.Ieee.{of_bits}
 use Rattle.doubles.proofs.Tests.{fit}

@@ -1,9 +1,6 @@
 -- `sum_down` meets its contract. Assumes nothing.
-use borrow.Author.Rules.{rules}
-use mathlib.Core.Path.{refl}
 use lib.Ieee.{of_bits}
 use Rattle.doubles.proofs.Tests.{fit}
-use Rattle.cdouble.specs.Exactness.{SumRange}
 use Rattle.directed.proofs.Limits.{most_addend}
 use Rattle.directed.proofs.Running.{sum_ready}
 use Rattle.directed.proofs.sums.sum_down.Goals as goal

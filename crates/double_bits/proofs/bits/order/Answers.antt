@@ -1,5 +1,4 @@
 -- `order` meets its contract. Assumes nothing.
-use borrow.Author.Rules.{rules}
 use lib.Ieee.{binary64, to_bits}
 use Rattle.doubles.proofs.Tests.{fit}
 use Rattle.doubles.proofs.Keys.{order_low, order_high, order_room}

@@ -1,5 +1,4 @@
 -- `next_down` meets its contract: it is `next_up` in the mirror. Assumes nothing.
-use borrow.Author.Rules.{rules}
 use mathlib.Core.Path.{sym, ap, ◌∙◌}
 use lib.Ieee.{neg}
 use Rattle.doubles.proofs.Next.{next_mirror}

@@ -1,5 +1,4 @@
 -- `next_up` meets its contract: each way through the code is a step of the rank. Assumes nothing.
-use borrow.Author.Rules.{rules}
 use native.Mathlib.Omega.{arith}
 use Rattle.doubles.proofs.Tests.{is_nan_lem, not_nan, fit}
 use Rattle.doubles.proofs.Steps.{Number, next_nan, up_positive, up_infinity, up_minus_zero, below_bits, up_negative}

@@ -1,5 +1,4 @@
 -- `edge` meets its contract. Assumes nothing.
-use borrow.Author.Rules.{rules}
 use Rattle.variable_bounds.specs.Model.{Model, model}
 use Rattle.edges.proofs.Tests.{edge_infinite, edge_leaving, edge_on_bounds, edge_widened}
 use mathlib.Core.Path.{ap}

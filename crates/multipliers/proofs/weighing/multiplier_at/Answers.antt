@@ -4,7 +4,6 @@ use lib.Ieee.{nan}
 use lib.ListN.{get_or}
 use Prim.Native.Nat.{◌+◌}
 use Rattle.multipliers.proofs.Branches.{multiplier_is}
-use borrow.Author.Rules.{rules}
 use Rattle.multipliers.proofs.weighing.multiplier_at.Goals as goal
 
 pub returns : goal.returns

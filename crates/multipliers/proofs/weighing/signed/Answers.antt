@@ -1,6 +1,5 @@
 -- `signed` meets its contract. Assumes nothing.
 use Rattle.multipliers.proofs.Branches.{signed_up, signed_down}
-use borrow.Author.Rules.{rules}
 use Rattle.multipliers.proofs.weighing.signed.Goals as goal
 
 pub returns-then-leaving_up : goal.returns-then-leaving_up

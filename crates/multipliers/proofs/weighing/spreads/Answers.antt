@@ -3,7 +3,6 @@ use lib.Ieee.{of_bits}
 use mathlib.Core.Path.{sym, ap}
 use Rattle.multipliers.specs.Multipliers.{spreads}
 use Rattle.multipliers.proofs.Branches.{spreads_by, spreads_nothing, spreads-kept, spreads-plain}
-use borrow.Author.Rules.{rules}
 use Rattle.multipliers.proofs.weighing.spreads.Goals as goal
 
 pub returns-then-distance : goal.returns-then-distance

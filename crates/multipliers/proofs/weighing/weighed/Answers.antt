@@ -1,7 +1,6 @@
 -- `weighed` meets its contract. Assumes nothing.
 use lib.Ieee.{of_bits}
 use Rattle.multipliers.proofs.Branches.{weighed_zeroed, weighed_dropped, weighed-kept}
-use borrow.Author.Rules.{rules}
 use Rattle.multipliers.proofs.weighing.weighed.Goals as goal
 
 pub returns-then-estimated-abs : goal.returns-then-estimated-abs

@@ -1,5 +1,4 @@
 -- `finite_product` meets its contract: the product of the signs and of the ranks. Assumes nothing.
-use borrow.Author.Rules.{rules}
 use mathlib.Core.Bool.{false}
 use Prim.Native.Nat.{◌*◌, ◌%◌, ◌^◌}
 use native.Mathlib.Omega.{arith}

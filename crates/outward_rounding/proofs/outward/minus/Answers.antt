@@ -1,5 +1,4 @@
 -- `minus` meets its contract: of the negative doubles only the one of rank 0 is a zero. Assumes nothing.
-use borrow.Author.Rules.{rules}
 use mathlib.Core.Bool.{true, false}
 use mathlib.Core.Path.{sym, ap, ◌∙◌}
 use Prim.Native.Nat.{ℕ}

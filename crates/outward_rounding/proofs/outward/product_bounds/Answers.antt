@@ -1,5 +1,4 @@
 -- `product_bounds` meets its contract. Assumes nothing.
-use borrow.Author.Rules.{rules}
 use mathlib.Core.Path.{◌∙◌}
 use mathlib.Core.Logic.{inl, inr}
 use lib.Dec.{T}

@@ -1,5 +1,4 @@
 -- `signed_sum` meets its contract: in each case the sum is a sign and a magnitude whose bounds are known. Assumes nothing.
-use borrow.Author.Rules.{rules}
 use mathlib.Core.Bool.{false}
 use Prim.Native.Nat.{◌+◌, ◌-◌}
 use native.Mathlib.Nat.{le_of_lt}

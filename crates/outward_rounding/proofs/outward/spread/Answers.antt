@@ -1,5 +1,4 @@
 -- `spread` meets its contract: its two branches are those of `cond`. Assumes nothing.
-use borrow.Author.Rules.{rules}
 use Rattle.outward_rounding.proofs.outward.spread.Goals as goal
 
 pub returns-then-below : goal.returns-then-below

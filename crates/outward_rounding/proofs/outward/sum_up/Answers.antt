@@ -1,5 +1,4 @@
 -- `sum_up` meets its contract. Assumes nothing.
-use borrow.Author.Rules.{rules}
 use mathlib.Core.Path.{◌∙◌}
 use lib.Dec.{T}
 use lib.Ieee.Scale.{finite}

@@ -1,11 +1,7 @@
 -- `all_one` meets its contract. Assumes nothing.
-use borrow.Author.Rules.{rules}
-use mathlib.Core.Path.{refl}
 use Prim.Native.Nat.{◌-◌}
 use Rattle.place_questions.specs.Tallies.{one_at}
-use Rattle.questions.proofs.All.{Passed, first, next, stop, done}
-use mathlib.Core.Path.{ap}
-use mathlib.Core.Bool.{not}
+use Rattle.questions.proofs.All.{Passed}
 use Rattle.place_questions.proofs.basis.all_one.Given as goal
 
 abbrev pub invariant-loop-p : goal.invariant-loop-p

@@ -1,5 +1,4 @@
 -- `basis_fine` meets its contract. Assumes nothing.
-use borrow.Author.Rules.{rules}
 use Rattle.questions.specs.Limits.{most_rows}
 use Rattle.place_questions.proofs.Tallies.{some_beyond, none_beyond, then_held, get_d_replicate}
 use mathlib.Core.Path.{ap}

@@ -1,5 +1,4 @@
 -- `count` meets its contract. Assumes nothing.
-use borrow.Author.Rules.{rules}
 use native.Mathlib.Omega.{arith}
 use Rattle.place_questions.proofs.Tests.{counted-set, counted_clear}
 use Rattle.questions.proofs.Tests.{flag_set}

@@ -1,5 +1,4 @@
 -- `held_once` meets its contract. Assumes nothing.
-use borrow.Author.Rules.{rules}
 use mathlib.Core.Path.{◌∙◌}
 use Rattle.place_questions.proofs.Tallies.{ones}
 use Rattle.place_questions.proofs.basis.held_once.Goals as goal

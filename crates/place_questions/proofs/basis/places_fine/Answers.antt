@@ -1,10 +1,7 @@
 -- `places_fine` meets its contract. Assumes nothing.
-use borrow.Author.Rules.{rules}
-use Prim.Native.Nat.{◌-◌}
 use lib.Dec.{ltb}
-use lib.ListN.{length, get_or}
-use Rattle.place_questions.specs.Questions.{place_fine_at}
-use Rattle.questions.proofs.All.{Passed, first, next, stop, done}
+use lib.ListN.{get_or}
+use Rattle.questions.proofs.All.{first, next, stop, done}
 use Rattle.place_questions.proofs.Tests.{or_set}
 use mathlib.Core.Path.{ap}
 use mathlib.Core.Bool.{not}

@@ -1,13 +1,8 @@
 -- `places_fine` meets its contract. Assumes nothing.
-use borrow.Author.Rules.{rules}
 use Prim.Native.Nat.{◌-◌}
-use lib.Dec.{ltb}
-use lib.ListN.{length, get_or}
+use lib.ListN.{length}
 use Rattle.place_questions.specs.Questions.{place_fine_at}
-use Rattle.questions.proofs.All.{Passed, first, next, stop, done}
-use Rattle.place_questions.proofs.Tests.{or_set}
-use mathlib.Core.Path.{ap}
-use mathlib.Core.Bool.{not}
+use Rattle.questions.proofs.All.{Passed}
 use Rattle.place_questions.proofs.basis.places_fine.Given as goal
 
 abbrev pub invariant-loop-v : goal.invariant-loop-v

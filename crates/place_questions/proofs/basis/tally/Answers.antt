@@ -1,9 +1,6 @@
 -- `tally` meets its contract. Assumes nothing.
-use borrow.Author.Rules.{rules}
 use native.Mathlib.Omega.{arith}
-use Prim.Native.Nat.{◌-◌}
-use lib.ListN.{length}
-use Rattle.place_questions.proofs.Tallies.{Counted, first, asks, next, keeps_length, done}
+use Rattle.place_questions.proofs.Tallies.{first, asks, next, keeps_length, done}
 use Rattle.place_questions.proofs.basis.tally.Goals as goal
 
 pub loop-v-init : goal.loop-v-init

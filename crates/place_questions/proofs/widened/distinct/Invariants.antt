@@ -1,13 +1,7 @@
 -- `distinct` meets its contract. Assumes nothing.
-use borrow.Author.Rules.{rules}
-use borrow.Author.Tests.{not-false, ltb-true}
-use native.Mathlib.Omega.{arith}
-use mathlib.Core.Path.{sym, subst}
-use Prim.Native.Nat.{ℕ, ◌-◌, ◌<◌}
-use lib.ListN.{length, get_or}
-use Rattle.place_questions.proofs.Marks.{Marked, first, stop_beyond, has_mark, stop_twice, next, done}
-use mathlib.Core.Path.{ap}
-use mathlib.Core.Bool.{not}
+use Prim.Native.Nat.{◌-◌}
+use lib.ListN.{length}
+use Rattle.place_questions.proofs.Marks.{Marked}
 use Rattle.place_questions.proofs.widened.distinct.Given as goal
 
 abbrev pub invariant-loop-k : goal.invariant-loop-k

@@ -1,5 +1,4 @@
 -- `mark_of` meets its contract. Assumes nothing.
-use borrow.Author.Rules.{rules}
 use Rattle.place_questions.proofs.Tests.{mark_down, mark_up}
 use Rattle.place_questions.proofs.widened.mark_of.Goals as goal
 

@@ -1,5 +1,4 @@
 -- `product_ranks` meets its contract: the product in two words goes to `wide_ranks`. Assumes nothing.
-use borrow.Author.Rules.{rules}
 use native.Mathlib.Omega.{arith}
 use mathlib.Core.Path.{ap}
 use Prim.Native.Nat.{ℕ, ◌*◌, ◌^◌}

@@ -1,5 +1,4 @@
 -- `rank_difference` meets its contract: a far second rank only moves the lower bound, and a near one is taken from the first at its exponent. Assumes nothing.
-use borrow.Author.Rules.{rules}
 use native.Mathlib.Omega.{arith}
 use Prim.Native.Nat.{◌<◌}
 use native.Mathlib.Nat.{le_of_lt}

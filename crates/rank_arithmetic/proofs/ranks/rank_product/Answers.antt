@@ -1,5 +1,4 @@
 -- `rank_product` meets its contract: the significands are multiplied and the exponents added. Assumes nothing.
-use borrow.Author.Rules.{rules}
 use Rattle.rank_arithmetic.proofs.WideRanks.{same_bounds}
 use Rattle.rank_arithmetic.proofs.RankFields.{product_is}
 use Rattle.rank_arithmetic.proofs.ranks.rank_product.Goals as goal

@@ -1,5 +1,4 @@
 -- `rank_sum` meets its contract: a far second rank only moves the upper bound, and a near one is added to the first at its exponent. Assumes nothing.
-use borrow.Author.Rules.{rules}
 use native.Mathlib.Omega.{arith}
 use Rattle.rank_arithmetic.proofs.RankSums.{Operands, Aligned, second_lt, times_fits, far-sum, carry_sum, plain-sum, sum_rankable, sum_bounds}
 use Rattle.rank_arithmetic.proofs.ranks.rank_sum.Goals as goal

@@ -1,5 +1,4 @@
 -- `wide_ranks` meets its contract: the width says how many digits are dropped, and what is left of them moves the upper bound. Assumes nothing.
-use borrow.Author.Rules.{rules}
 use native.Mathlib.Omega.{arith}
 use mathlib.Core.Path.{ap, ◌∙◌}
 use Prim.Native.Nat.{ℕ, ◌+◌, ◌-◌}

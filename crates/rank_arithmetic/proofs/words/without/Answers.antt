@@ -1,5 +1,4 @@
 -- `without` meets its contract: each branch is one case of where the cut falls. Assumes nothing.
-use borrow.Author.Rules.{rules}
 use native.Mathlib.Omega.{arith}
 use native.Mathlib.Nat.{lt_of_le_of_lt, le_of_eq}
 use Rattle.rank_arithmetic.proofs.TwoWords.{down_up_le, low_whole, cut_none, cut_low, cut_high_none, cut_high_some, cut_all_none, cut_all_some}

@@ -1,6 +1,5 @@
 -- `error_bounds` meets its contract. Assumes nothing.
 use Rattle.refinement_error.proofs.Branches.{bounds_unchecked, bounds_checked}
-use borrow.Author.Rules.{rules}
 use Rattle.refinement_error.proofs.refinement.error_bounds.Goals as goal
 
 pub returns-then-checked-eq0 : goal.returns-then-checked-eq0

@@ -1,6 +1,5 @@
 -- `norm_with` meets its contract. Assumes nothing.
 use Rattle.refinement_error.proofs.Branches.{norm_larger, norm_spoilt}
-use borrow.Author.Rules.{rules}
 use Rattle.refinement_error.proofs.refinement.norm_with.Goals as goal
 
 pub returns-then-is_finite : goal.returns-then-is_finite

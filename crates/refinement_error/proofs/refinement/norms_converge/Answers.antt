@@ -1,7 +1,6 @@
 -- `norms_converge` meets its contract. Assumes nothing.
 use lib.Ieee.{of_bits}
 use Rattle.refinement_error.proofs.Branches.{converges_is}
-use borrow.Author.Rules.{rules}
 use Rattle.refinement_error.proofs.refinement.norms_converge.Goals as goal
 
 pub returns-in-Largest-second_norm : goal.returns-in-Largest-second_norm

@@ -1,13 +1,9 @@
 -- `rho_norm` meets its contract. Assumes nothing.
-use borrow.Author.Rules.{rules}
-use lib.Ieee.{of_bits}
-use mathlib.Core.Path.{ap, ◌∙◌}
 use Prim.Native.Nat.{◌-◌}
 use lib.ListN.{length}
 use Rattle.cdouble.specs.Compensated.{value}
-use Rattle.refinement_error.specs.Refinement.{finite_max_norm, norm_with, rho_at}
-use Rattle.exact.proofs.Turns.{Turn, first, done}
-use Rattle.refinement_error.proofs.Turns.{next_number}
+use Rattle.refinement_error.specs.Refinement.{finite_max_norm, rho_at}
+use Rattle.exact.proofs.Turns.{Turn}
 use Rattle.refinement_error.proofs.refinement.rho_norm.Given as goal
 
 abbrev pub invariant-loop-r : goal.invariant-loop-r

@@ -1,10 +1,8 @@
 -- `second_norm` meets its contract. Assumes nothing.
-use borrow.Author.Rules.{rules}
 use lib.Ieee.{of_bits, nan}
-use Prim.Native.Nat.{◌-◌}
 use lib.ListN.{length, get_or}
 use Rattle.refinement_error.specs.Refinement.{finite_max_norm}
-use Rattle.exact.proofs.Turns.{Turn, first, done}
+use Rattle.exact.proofs.Turns.{first, done}
 use Rattle.refinement_error.proofs.Turns.{next_number}
 use Rattle.refinement_error.proofs.refinement.second_norm.Goals as goal
 

@@ -1,11 +1,9 @@
 -- `second_norm` meets its contract. Assumes nothing.
-use borrow.Author.Rules.{rules}
-use lib.Ieee.{of_bits, nan}
+use lib.Ieee.{nan}
 use Prim.Native.Nat.{◌-◌}
 use lib.ListN.{length, get_or}
 use Rattle.refinement_error.specs.Refinement.{finite_max_norm}
-use Rattle.exact.proofs.Turns.{Turn, first, done}
-use Rattle.refinement_error.proofs.Turns.{next_number}
+use Rattle.exact.proofs.Turns.{Turn}
 use Rattle.refinement_error.proofs.refinement.second_norm.Given as goal
 
 abbrev pub invariant-loop-r : goal.invariant-loop-r

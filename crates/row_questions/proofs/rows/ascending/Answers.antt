@@ -1,10 +1,6 @@
 -- `ascending` meets its contract. Assumes nothing.
-use borrow.Author.Rules.{rules}
 use mathlib.Core.Path.{refl}
-use Prim.Native.Nat.{◌-◌}
-use lib.ListN.{length}
-use Rattle.row_questions.specs.Questions.{column_fine_at}
-use Rattle.questions.proofs.All.{Passed, first, next, stop, done}
+use Rattle.questions.proofs.All.{first, next, stop, done}
 use mathlib.Core.Path.{ap}
 use mathlib.Core.Bool.{not}
 use Rattle.row_questions.proofs.rows.ascending.Goals as goal

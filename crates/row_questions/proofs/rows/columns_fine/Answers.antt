@@ -1,10 +1,9 @@
 -- `columns_fine` meets its contract. Assumes nothing.
 use borrow.Author.Rules.{rules}
 use native.Mathlib.Omega.{arith}
-use Prim.Native.Nat.{◌-◌}
 use Rattle.row_questions.specs.Rows.{part}
-use Rattle.row_questions.specs.Questions.{row_columns_fine_at, columns_fine}
-use Rattle.questions.proofs.All.{Passed, first, next, stop, done}
+use Rattle.row_questions.specs.Questions.{columns_fine}
+use Rattle.questions.proofs.All.{first, next, stop, done}
 use mathlib.Core.Path.{ap}
 use mathlib.Core.Bool.{not}
 use Rattle.row_questions.proofs.rows.columns_fine.Goals as goal

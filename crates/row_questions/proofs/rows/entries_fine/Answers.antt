@@ -1,5 +1,4 @@
 -- `entries_fine` meets its contract. Assumes nothing.
-use borrow.Author.Rules.{rules}
 use mathlib.Core.Path.{refl}
 use Rattle.row_questions.specs.Questions.{entries_fine}
 use Rattle.row_questions.proofs.rows.entries_fine.Goals as goal

@@ -1,9 +1,6 @@
 -- `never_fall` meets its contract. Assumes nothing.
-use borrow.Author.Rules.{rules}
 use mathlib.Core.Path.{refl}
-use Prim.Native.Nat.{◌-◌}
-use Rattle.row_questions.specs.Questions.{rises_at}
-use Rattle.questions.proofs.All.{Passed, first, next, stop, done}
+use Rattle.questions.proofs.All.{first, next, stop, done}
 use mathlib.Core.Path.{ap}
 use mathlib.Core.Bool.{not}
 use borrow.Author.Tests.{le-leb, lt-leb}

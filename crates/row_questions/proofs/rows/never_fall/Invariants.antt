@@ -1,11 +1,7 @@
 -- `never_fall` meets its contract. Assumes nothing.
-use borrow.Author.Rules.{rules}
-use mathlib.Core.Path.{refl}
 use Prim.Native.Nat.{◌-◌}
 use Rattle.row_questions.specs.Questions.{rises_at}
-use Rattle.questions.proofs.All.{Passed, first, next, stop, done}
-use mathlib.Core.Path.{ap}
-use mathlib.Core.Bool.{not}
+use Rattle.questions.proofs.All.{Passed}
 use Rattle.row_questions.proofs.rows.never_fall.Given as goal
 
 abbrev pub invariant-loop-r : goal.invariant-loop-r

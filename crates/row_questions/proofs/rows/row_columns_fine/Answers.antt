@@ -1,5 +1,4 @@
 -- `row_columns_fine` meets its contract. Assumes nothing.
-use borrow.Author.Rules.{rules}
 use Rattle.row_questions.proofs.Tests.{no_columns, some_columns}
 use Rattle.row_questions.proofs.rows.row_columns_fine.Goals as goal
 

@@ -1,12 +1,7 @@
 -- `slack_entries_fine` meets its contract. Assumes nothing.
-use borrow.Author.Rules.{rules}
-use native.Mathlib.Omega.{arith}
 use Prim.Native.Nat.{◌-◌}
 use Rattle.row_questions.specs.Questions.{slack_entry_fine_at}
-use Rattle.row_questions.specs.Rows.{part}
-use Rattle.questions.proofs.All.{Passed, first, next, stop, done}
-use mathlib.Core.Path.{ap}
-use mathlib.Core.Bool.{not}
+use Rattle.questions.proofs.All.{Passed}
 use Rattle.row_questions.proofs.rows.slack_entries_fine.Given as goal
 
 abbrev pub invariant-loop-r : goal.invariant-loop-r

@@ -1,5 +1,4 @@
 -- `slack_entry_fine` meets its contract. Assumes nothing.
-use borrow.Author.Rules.{rules}
 use mathlib.Core.Path.{refl}
 use lib.Ieee.{of_bits}
 use Rattle.row_questions.specs.Questions.{slack_entry_fine}

@@ -1,5 +1,4 @@
 -- `starts_fine` meets its contract. Assumes nothing.
-use borrow.Author.Rules.{rules}
 use mathlib.Core.Path.{refl}
 use Rattle.row_questions.specs.Questions.{starts_fine}
 use Rattle.row_questions.proofs.rows.starts_fine.Goals as goal

@@ -1,12 +1,10 @@
 -- `row_activity` meets its contract. Assumes nothing.
-use borrow.Author.Rules.{rules}
 use mathlib.Core.Path.{ap, ◌∙◌}
-use Prim.Native.Nat.{◌-◌}
 use lib.Ieee.{Float, of_bits}
 use lib.ListN.{length}
 use Rattle.cdouble.specs.Compensated.{plus_zero}
 use Rattle.row_values.specs.Activity.{activity, after_entries, row_activity}
-use Rattle.exact.proofs.Turns.{Turn, done}
+use Rattle.exact.proofs.Turns.{done}
 use Rattle.row_values.proofs.Loops.{none_entered, one_entered}
 use Rattle.row_values.proofs.activity.row_activity.Goals as goal
 

@@ -1,13 +1,8 @@
 -- `row_activity` meets its contract. Assumes nothing.
-use borrow.Author.Rules.{rules}
-use mathlib.Core.Path.{ap, ◌∙◌}
 use Prim.Native.Nat.{◌-◌}
-use lib.Ieee.{Float, of_bits}
 use lib.ListN.{length}
-use Rattle.cdouble.specs.Compensated.{plus_zero}
-use Rattle.row_values.specs.Activity.{activity, after_entries, row_activity}
-use Rattle.exact.proofs.Turns.{Turn, done}
-use Rattle.row_values.proofs.Loops.{none_entered, one_entered}
+use Rattle.row_values.specs.Activity.{after_entries}
+use Rattle.exact.proofs.Turns.{Turn}
 use Rattle.row_values.proofs.activity.row_activity.Given as goal
 
 abbrev pub invariant-loop-k : goal.invariant-loop-k

@@ -1,5 +1,4 @@
 -- `row_terms` meets its contract. Assumes nothing.
-use borrow.Author.Rules.{rules}
 use mathlib.Core.Path.{refl}
 use Rattle.row_values.proofs.activity.row_terms.Goals as goal
 

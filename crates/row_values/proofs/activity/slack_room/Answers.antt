@@ -1,5 +1,4 @@
 -- `slack_room` meets its contract. Assumes nothing.
-use borrow.Author.Rules.{rules}
 use Rattle.row_values.proofs.Tests.{slack_room_is}
 use Rattle.row_values.proofs.activity.slack_room.Goals as goal
 

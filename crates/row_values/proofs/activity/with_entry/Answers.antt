@@ -1,5 +1,4 @@
 -- `with_entry` meets its contract. Assumes nothing.
-use borrow.Author.Rules.{rules}
 use Rattle.row_values.proofs.Tests.{entry_structural, entry_slack}
 use Rattle.row_values.proofs.activity.with_entry.Goals as goal
 

@@ -1,5 +1,4 @@
 -- `lengths_fine` meets its contract. Assumes nothing.
-use borrow.Author.Rules.{rules}
 use lib.ListN.{length}
 use lib.Dec.{eqb}
 use Rattle.sheet.specs.Lengths.{lengths_fit}

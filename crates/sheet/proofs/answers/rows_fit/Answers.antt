@@ -1,5 +1,4 @@
 -- `rows_fit` meets its contract. Assumes nothing.
-use borrow.Author.Rules.{rules}
 use mathlib.Core.Path.{refl}
 use Rattle.sheet.specs.Lengths.{rows_fit}
 use Rattle.sheet.proofs.answers.rows_fit.Goals as goal

@@ -1,5 +1,4 @@
 -- `add_up` meets its contract. Assumes nothing.
-use borrow.Author.Rules.{rules}
 use mathlib.Core.Path.{◌≡◌, refl, ap, ◌∙◌}
 use lib.IntN.{◌+ℤ◌}
 use lib.Ieee.{Float, of_bits}

@@ -1,5 +1,4 @@
 -- `distance_up` meets its contract. Assumes nothing.
-use borrow.Author.Rules.{rules}
 use mathlib.Core.Path.{ap, ◌∙◌}
 use lib.IntN.{◌-ℤ◌}
 use Rattle.exact.specs.Value.{exact}

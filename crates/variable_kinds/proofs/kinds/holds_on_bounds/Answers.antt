@@ -1,5 +1,4 @@
 -- `holds_on_bounds` meets its contract. Assumes nothing.
-use borrow.Author.Rules.{rules}
 use Rattle.variable_kinds.proofs.Tests.{holds_integer, holds_fixed, holds_not}
 use Rattle.variable_kinds.proofs.kinds.holds_on_bounds.Goals as goal
 

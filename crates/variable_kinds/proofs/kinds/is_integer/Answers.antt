@@ -1,5 +1,4 @@
 -- `is_integer` meets its contract. Assumes nothing.
-use borrow.Author.Rules.{rules}
 use Rattle.variable_kinds.proofs.Tests.{integer_is, integer_not}
 use Rattle.variable_kinds.proofs.kinds.is_integer.Goals as goal
 

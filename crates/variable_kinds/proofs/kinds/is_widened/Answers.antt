@@ -1,8 +1,5 @@
 -- `is_widened` meets its contract. Assumes nothing.
-use borrow.Author.Rules.{rules}
-use Prim.Native.Nat.{◌-◌}
-use lib.ListN.{length}
-use Rattle.variable_kinds.proofs.Loops.{Unmet, matches_both, other_side, other_variable, none_met, one_unmet, is_met, all_unmet}
+use Rattle.variable_kinds.proofs.Loops.{matches_both, other_side, other_variable, none_met, one_unmet, is_met, all_unmet}
 use Rattle.variable_kinds.proofs.kinds.is_widened.Goals as goal
 use Rattle.variable_kinds.proofs.kinds.is_widened.Goals.{else-vars-k-via-then-vars-k+else-ups-k, else-vars-k-via-else-vars-k}
 

@@ -1,8 +1,5 @@
 -- `leaving_variable` meets its contract. Assumes nothing.
-use borrow.Author.Rules.{rules}
-use Prim.Native.Nat.{◌-◌}
-use lib.ListN.{length}
-use Rattle.variable_kinds.proofs.Loops.{Unheld, none_held, one_unheld, is_held, all_unheld}
+use Rattle.variable_kinds.proofs.Loops.{none_held, one_unheld, is_held, all_unheld}
 use Rattle.variable_kinds.proofs.kinds.leaving_variable.Goals as goal
 
 pub loop-v-init : goal.loop-v-init

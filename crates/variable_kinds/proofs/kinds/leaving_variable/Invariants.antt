@@ -1,8 +1,7 @@
 -- `leaving_variable` meets its contract. Assumes nothing.
-use borrow.Author.Rules.{rules}
 use Prim.Native.Nat.{◌-◌}
 use lib.ListN.{length}
-use Rattle.variable_kinds.proofs.Loops.{Unheld, none_held, one_unheld, is_held, all_unheld}
+use Rattle.variable_kinds.proofs.Loops.{Unheld}
 use Rattle.variable_kinds.proofs.kinds.leaving_variable.Given as goal
 
 abbrev pub invariant-loop-v : goal.invariant-loop-v
