@@ -154,8 +154,7 @@ pub fn weighed(
 }
 
 /// The questions, and the kept numbers of a sheet that passes them.
-#[unsafe(no_mangle)]
-pub extern "C" fn proof_of(
+pub fn proof_of(
     rows: usize,
     structurals: usize,
     entry_count: usize,

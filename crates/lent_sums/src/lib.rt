@@ -7,16 +7,14 @@ ghost use Rattle.cdouble.specs.Compensated.{plus, plus_scaled};
 use cdouble::CDouble;
 
 /// `p + v`, in place.
-#[unsafe(no_mangle)]
-pub extern "C" fn cdouble_add(p: &mut CDouble, v: f64)
+pub fn cdouble_add(p: &mut CDouble, v: f64)
     ensures { p.new ≡ plus p.old v }
 {
     *p = CDouble::add(*p, v);
 }
 
 /// `p + c · b`, in place.
-#[unsafe(no_mangle)]
-pub extern "C" fn cdouble_add_scaled(p: &mut CDouble, c: CDouble, b: f64)
+pub fn cdouble_add_scaled(p: &mut CDouble, c: CDouble, b: f64)
     ensures { p.new ≡ plus_scaled p.old c b }
 {
     *p = CDouble::add_scaled(*p, c, b);

@@ -14,8 +14,7 @@ use verdict::Verdict;
 use widened_records::{Widened, search};
 
 /// The questions, and the verdict on a sheet that passes them.
-#[unsafe(no_mangle)]
-pub extern "C" fn sheet_verdict<'a>(
+pub fn sheet_verdict<'a>(
     widened: &'a [Widened],
     rows: usize,
     structurals: usize,

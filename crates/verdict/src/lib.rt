@@ -70,8 +70,7 @@ fn answered(kept: Kept, outward: f64) -> Verdict
 }
 
 /// The questions, and the verdict on a sheet that passes them.
-#[unsafe(no_mangle)]
-pub extern "C" fn verdict_of(
+pub fn verdict_of(
     rows: usize,
     structurals: usize,
     entry_count: usize,

@@ -35,8 +35,7 @@ fn lines_of(v: Verdict) -> Lines
 
 /// Puts the answer to a text at the front of `out`, where it fits, and answers its length; where it does not fit nothing is
 /// written.
-#[unsafe(no_mangle)]
-pub extern "C" fn weigh_text(text: &[u8], out: &mut [u8]) -> usize
+pub fn weigh_text(text: &[u8], out: &mut [u8]) -> usize
     ensures value { result ≡ length (text_answer text.now) }
     ensures out_after { out.new ≡ written_if_fits (text_answer text.now) out.old }
     ensures upper_bound { result ≤ most_answer }

@@ -1,0 +1,189 @@
+//! The library for callers in C: each function is the library's of the same name, with the same contract.
+#![tactic(auto)]
+
+ghost use Rattle.std.specs.Prelude.{◌≡◌, ◌≤◌, T, length};
+ghost use Rattle.cdouble.specs.Compensated.{plus, plus_scaled};
+ghost use Rattle.sheet.specs.Sheet.{sheet};
+ghost use Rattle.added_row.specs.Added.{lists};
+ghost use Rattle.kept.specs.Kept.{after, lent, outputs, sizes};
+ghost use Rattle.gaps.specs.Rows.{ranges_of, rows_of};
+ghost use Rattle.gaps.specs.ThirdDemand.{NoPoint};
+ghost use Rattle.verdict.specs.Verdict.{verdict};
+ghost use Rattle.widened_records.specs.Records.{ups_of, variables_of};
+ghost use Rattle.printer.specs.Answer.{written_if_fits};
+ghost use Rattle.sheet_text.specs.SheetIn.{sheet_in};
+ghost use Rattle.weigh_text.specs.TextVerdict.{most_answer, text_answer, text_verdict};
+
+use cdouble::CDouble;
+use verdict::Verdict;
+use widened_records::Widened;
+
+/// `p + v`, in place.
+#[unsafe(no_mangle)]
+pub extern "C" fn cdouble_add(p: &mut CDouble, v: f64)
+    ensures { p.new ≡ plus p.old v }
+{
+    lent_sums::cdouble_add(p, v);
+}
+
+/// `p + c · b`, in place.
+#[unsafe(no_mangle)]
+pub extern "C" fn cdouble_add_scaled(p: &mut CDouble, c: CDouble, b: f64)
+    ensures { p.new ≡ plus_scaled p.old c b }
+{
+    lent_sums::cdouble_add_scaled(p, c, b);
+}
+
+/// The entry point: the verdict on a sheet whose widened list is lent as records.
+#[unsafe(no_mangle)]
+pub extern "C" fn sheet_verdict<'a>(
+    widened: &'a [Widened],
+    rows: usize,
+    structurals: usize,
+    entry_count: usize,
+    feasibility: f64,
+    checked: u8,
+    leaving_row: usize,
+    leaving_up: u8,
+    high: &'a mut [f64],
+    low: &'a mut [f64],
+    magnitudes: &'a mut [f64],
+    terms: &'a mut [u32],
+    errors: &'a mut [f64],
+    starts: &'a [usize],
+    columns: &'a [usize],
+    entries: &'a [f64],
+    right_sides: &'a [f64],
+    scales: &'a [f64],
+    integer: &'a [u8],
+    mins: &'a [f64],
+    maxs: &'a [f64],
+    low_tolerances: &'a [f64],
+    high_tolerances: &'a [f64],
+    basic: &'a [u8],
+    places: &'a [usize],
+    values: &'a [f64],
+    rho_hi: &'a [f64],
+    rho_lo: &'a [f64],
+    second: &'a [f64],
+) -> Verdict
+    ensures value { result ≡ verdict (sheet (sizes rows structurals entry_count) feasibility checked leaving_row leaving_up (outputs (lists high.old low.old magnitudes.old terms.old) errors.old) starts.now columns.now entries.now right_sides.now scales.now integer.now mins.now maxs.now low_tolerances.now high_tolerances.now basic.now places.now values.now (variables_of widened.now) (ups_of widened.now) rho_hi.now rho_lo.now second.now) }
+    ensures errors_after { lent (lists high.new low.new magnitudes.new terms.new) errors.new ≡ after (sheet (sizes rows structurals entry_count) feasibility checked leaving_row leaving_up (outputs (lists high.old low.old magnitudes.old terms.old) errors.old) starts.now columns.now entries.now right_sides.now scales.now integer.now mins.now maxs.now low_tolerances.now high_tolerances.now basic.now places.now values.now (variables_of widened.now) (ups_of widened.now) rho_hi.now rho_lo.now second.now) (lent (lists high.old low.old magnitudes.old terms.old) errors.old) }
+    ensures no_point { T result.declined → NoPoint (rows_of (sheet (sizes rows structurals entry_count) feasibility checked leaving_row leaving_up (outputs (lists high.old low.old magnitudes.old terms.old) errors.old) starts.now columns.now entries.now right_sides.now scales.now integer.now mins.now maxs.now low_tolerances.now high_tolerances.now basic.now places.now values.now (variables_of widened.now) (ups_of widened.now) rho_hi.now rho_lo.now second.now)) (ranges_of (sheet (sizes rows structurals entry_count) feasibility checked leaving_row leaving_up (outputs (lists high.old low.old magnitudes.old terms.old) errors.old) starts.now columns.now entries.now right_sides.now scales.now integer.now mins.now maxs.now low_tolerances.now high_tolerances.now basic.now places.now values.now (variables_of widened.now) (ups_of widened.now) rho_hi.now rho_lo.now second.now)) }
+{
+    sheet_verdict::sheet_verdict(
+        widened,
+        rows,
+        structurals,
+        entry_count,
+        feasibility,
+        checked,
+        leaving_row,
+        leaving_up,
+        high,
+        low,
+        magnitudes,
+        terms,
+        errors,
+        starts,
+        columns,
+        entries,
+        right_sides,
+        scales,
+        integer,
+        mins,
+        maxs,
+        low_tolerances,
+        high_tolerances,
+        basic,
+        places,
+        values,
+        rho_hi,
+        rho_lo,
+        second,
+    )
+}
+
+/// The verdict on a sheet whose widened list is lent as two lists.
+#[unsafe(no_mangle)]
+pub extern "C" fn verdict_of(
+    rows: usize,
+    structurals: usize,
+    entry_count: usize,
+    feasibility: f64,
+    checked: u8,
+    leaving_row: usize,
+    leaving_up: u8,
+    high: &mut [f64],
+    low: &mut [f64],
+    magnitudes: &mut [f64],
+    terms: &mut [u32],
+    errors: &mut [f64],
+    starts: &[usize],
+    columns: &[usize],
+    entries: &[f64],
+    right_sides: &[f64],
+    scales: &[f64],
+    integer: &[u8],
+    mins: &[f64],
+    maxs: &[f64],
+    low_tolerances: &[f64],
+    high_tolerances: &[f64],
+    basic: &[u8],
+    places: &[usize],
+    values: &[f64],
+    widened_vars: &[usize],
+    widened_ups: &[u8],
+    rho_hi: &[f64],
+    rho_lo: &[f64],
+    second: &[f64],
+) -> Verdict
+    ensures value { result ≡ verdict (sheet (sizes rows structurals entry_count) feasibility checked leaving_row leaving_up (outputs (lists high.old low.old magnitudes.old terms.old) errors.old) starts.now columns.now entries.now right_sides.now scales.now integer.now mins.now maxs.now low_tolerances.now high_tolerances.now basic.now places.now values.now widened_vars.now widened_ups.now rho_hi.now rho_lo.now second.now) }
+    ensures errors_after { lent (lists high.new low.new magnitudes.new terms.new) errors.new ≡ after (sheet (sizes rows structurals entry_count) feasibility checked leaving_row leaving_up (outputs (lists high.old low.old magnitudes.old terms.old) errors.old) starts.now columns.now entries.now right_sides.now scales.now integer.now mins.now maxs.now low_tolerances.now high_tolerances.now basic.now places.now values.now widened_vars.now widened_ups.now rho_hi.now rho_lo.now second.now) (lent (lists high.old low.old magnitudes.old terms.old) errors.old) }
+    ensures no_point { T result.declined → NoPoint (rows_of (sheet (sizes rows structurals entry_count) feasibility checked leaving_row leaving_up (outputs (lists high.old low.old magnitudes.old terms.old) errors.old) starts.now columns.now entries.now right_sides.now scales.now integer.now mins.now maxs.now low_tolerances.now high_tolerances.now basic.now places.now values.now widened_vars.now widened_ups.now rho_hi.now rho_lo.now second.now)) (ranges_of (sheet (sizes rows structurals entry_count) feasibility checked leaving_row leaving_up (outputs (lists high.old low.old magnitudes.old terms.old) errors.old) starts.now columns.now entries.now right_sides.now scales.now integer.now mins.now maxs.now low_tolerances.now high_tolerances.now basic.now places.now values.now widened_vars.now widened_ups.now rho_hi.now rho_lo.now second.now)) }
+{
+    verdict::verdict_of(
+        rows,
+        structurals,
+        entry_count,
+        feasibility,
+        checked,
+        leaving_row,
+        leaving_up,
+        high,
+        low,
+        magnitudes,
+        terms,
+        errors,
+        starts,
+        columns,
+        entries,
+        right_sides,
+        scales,
+        integer,
+        mins,
+        maxs,
+        low_tolerances,
+        high_tolerances,
+        basic,
+        places,
+        values,
+        widened_vars,
+        widened_ups,
+        rho_hi,
+        rho_lo,
+        second,
+    )
+}
+
+/// Puts the answer to a text at the front of `out`, where it fits, and answers its length; where it does not fit nothing is
+/// written.
+#[unsafe(no_mangle)]
+pub extern "C" fn weigh_text(text: &[u8], out: &mut [u8]) -> usize
+    ensures value { result ≡ length (text_answer text.now) }
+    ensures out_after { out.new ≡ written_if_fits (text_answer text.now) out.old }
+    ensures upper_bound { result ≤ most_answer }
+    ensures no_point { T (text_verdict text.now).declined → NoPoint (rows_of (sheet_in text.now)) (ranges_of (sheet_in text.now)) }
+{
+    weigh_text::weigh_text(text, out)
+}
