@@ -11,12 +11,16 @@
 //
 // A slice goes by its place among the slices that `first_no` takes. After them comes one that is not handed over: the
 // lengths of the others, and the numbers of the sheet. A line of any other form counts as a case that differs.
+#![tactic(auto)]
+
 ghost use Rattle.std.specs.Prelude.{◌+◌, ◌≤◌};
 
 use refusal_numbers::number_of;
 use sheet::{Outputs, Sizes};
 use sheet_answers::first_no;
-use tables::{Value, count, double_of, number};
+use std::io;
+use std::io::Read;
+use tables::{Value, count, double_of, number, read_full};
 
 // Bytes in a line, its end included.
 const LINE: usize = 70;
@@ -426,7 +430,13 @@ fn letter_of(s: &Line, a: &mut Given) -> u8 {
 }
 
 /// Counts a case. The first lines that differ are printed.
-fn tally(ok: bool, refusal: usize, line: &Line, counts: &mut Counts) {
+fn tally(
+    rt: &impl Print,
+    ok: bool,
+    refusal: usize,
+    line: &Line,
+    counts: &mut Counts,
+) -> io::Result<()> {
     let place = least(refusal, NONE);
     count(counts, place);
     count(counts, ALL);
@@ -434,83 +444,109 @@ fn tally(ok: bool, refusal: usize, line: &Line, counts: &mut Counts) {
         count(counts, DIFFER + place);
         count(counts, DIFFER + ALL);
         if counts[DIFFER + ALL] <= SHOWN {
-            io::write_all(1, line);
+            rt.write_all(line)?;
         }
     }
+    Ok(())
 }
 
 /// Runs a line: the last of a case asks for the sheet's refusal, any other changes the sheet.
 fn run_line(
+    rt: &impl Print,
     line: &Line,
     words: &mut Words,
     flags: &mut Flags,
     reals: &mut Reals,
     counts: &mut Counts,
-) {
+) -> io::Result<()> {
     let mut a = [0usize; 4];
     let letter = letter_of(line, &mut a);
     if letter == b'E' {
-        tally(answer(words, flags, reals) == a[0], a[0], line, counts);
+        tally(rt, answer(words, flags, reals) == a[0], a[0], line, counts)?;
     } else if !change(letter, &a, words, flags, reals) {
-        tally(false, NONE, line, counts);
+        tally(rt, false, NONE, line, counts)?;
     }
+    Ok(())
 }
 
 /// Reads and runs the next line, and answers whether there may be another. What is left of a line cut short stays 0, so
 /// such a line has not the form of one.
-fn run_next(words: &mut Words, flags: &mut Flags, reals: &mut Reals, counts: &mut Counts) -> bool {
+fn run_next<I: Read, R: Print>(
+    input: &mut I,
+    rt: &R,
+    words: &mut Words,
+    flags: &mut Flags,
+    reals: &mut Reals,
+    counts: &mut Counts,
+) -> io::Result<bool> {
     let mut line = [0u8; 70];
-    let got = io::read_full(0, &mut line);
+    let got = read_full(input, &mut line)?;
     if got > 0 {
-        run_line(&line, words, flags, reals, counts);
+        run_line(rt, &line, words, flags, reals, counts)?;
     }
-    got == LINE
+    Ok(got == LINE)
 }
 
 /// A proved loop has to end, and nothing says that the input does. So the loop counts its turns down, from a number that
 /// no run uses up.
-fn run_table(words: &mut Words, flags: &mut Flags, reals: &mut Reals, counts: &mut Counts) {
+fn run_table<I: Read, R: Print>(
+    input: &mut I,
+    rt: &R,
+    words: &mut Words,
+    flags: &mut Flags,
+    reals: &mut Reals,
+    counts: &mut Counts,
+) -> io::Result<()> {
     let mut turns = u64::MAX;
-    while turns > 0 && run_next(words, flags, reals, counts) {
+    while turns > 0 && run_next(input, rt, words, flags, reals, counts)? {
         turns -= 1;
     }
+    Ok(())
 }
 
 /// Writes how many cases were run and how many differ.
-fn report(counts: &Counts, place: usize)
+fn report(rt: &impl Print, counts: &Counts, place: usize) -> io::Result<()>
     requires { place ≤ 14 }
 {
-    io::print_decimal(1, counts[place]);
-    io::write_all(1, b" cases, ");
-    io::print_decimal(1, counts[DIFFER + place]);
-    io::write_all(1, b" differ\n");
+    println!(rt;
+        "{} cases, {} differ",
+        counts[place],
+        counts[DIFFER + place]
+    )
 }
 
 /// The same of a refusal. The first question is asked of a file, so there is no refusal 1 here.
-fn report_refusal(counts: &Counts, refusal: usize)
+fn report_refusal(rt: &impl Print, counts: &Counts, refusal: usize) -> io::Result<()>
     requires { refusal ≤ 14 }
 {
     if refusal != 1 {
-        io::write_all(1, b"refusal ");
-        io::print_decimal(1, refusal as u64);
-        io::write_all(1, b": ");
-        report(counts, refusal);
+        print!(rt; "refusal {refusal}: ")?;
+        report(rt, counts, refusal)?;
     }
+    Ok(())
 }
 
 /// And of all refusals.
-fn report_refusals(counts: &Counts) {
+fn report_refusals(rt: &impl Print, counts: &Counts) -> io::Result<()> {
     for refusal in 0..NONE {
-        report_refusal(counts, refusal);
+        report_refusal(rt, counts, refusal)?;
     }
+    Ok(())
 }
 
-fn main() {
+fn main(rt: HostRuntime) -> io::Result<()> {
     let mut counts = [0u64; 30];
     let mut words = [0usize; 5426];
     let mut flags = [0u8; 1424];
     let mut reals = [0f64; 6700];
-    run_table(&mut words, &mut flags, &mut reals, &mut counts);
-    report_refusals(&counts);
-    report(&counts, ALL);
+    run_table(
+        &mut rt.stdin(),
+        &rt,
+        &mut words,
+        &mut flags,
+        &mut reals,
+        &mut counts,
+    )?;
+    report_refusals(&rt, &counts)?;
+    report(&rt, &counts, ALL)
 }

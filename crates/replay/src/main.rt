@@ -17,12 +17,16 @@
 // of the sheet. A new sheet has 0 everywhere, but for the sizes among its numbers; its outputs have FILL. A sheet
 // agrees if its answer does, its outward gap does and is not above the exact one, and every place of every output does. A
 // line of any other form counts as a sheet that differs.
+#![tactic(auto)]
+
 ghost use Rattle.std.specs.Prelude.{◌+◌, ◌≤◌};
 
 use kept::{Kept, proof_of};
 use outward_sheet::{Outward, outward_of};
 use sheet::{Outputs, Sizes};
-use tables::{Value, bits_of, count, double_of, number};
+use std::io;
+use std::io::Read;
+use tables::{Value, bits_of, count, double_of, number, read_full};
 
 // Bytes in a line, its end included.
 const LINE: usize = 138;
@@ -614,17 +618,18 @@ fn after(place: usize, length: usize) -> usize
 }
 
 /// Prints a line that differs, if it's among the first.
-fn show(line: &Line, counts: &mut Counts) {
+fn show(rt: &impl Print, line: &Line, counts: &mut Counts) -> io::Result<()> {
     count(counts, LINES);
     if counts[LINES] <= SHOWN {
-        io::write_all(1, line);
+        rt.write_all(line)?;
     }
+    Ok(())
 }
 
 /// Counts a line that has not the form of one, as a sheet of no class that differs.
-fn refuse(line: &Line, counts: &mut Counts) {
+fn refuse(rt: &impl Print, line: &Line, counts: &mut Counts) -> io::Result<()> {
     count(counts, ALL);
-    show(line, counts);
+    show(rt, line, counts)
 }
 
 /// Counts a sheet for a place from `from` on.
@@ -643,18 +648,26 @@ fn open(sizes: &mut Given, counts: &mut Counts) {
 }
 
 /// Takes in whether what a line says of a sheet agrees. After the last place a sheet that agrees is counted.
-fn settle(ok: bool, line: &Line, sizes: &mut Given, counts: &mut Counts) {
+fn settle(
+    rt: &impl Print,
+    ok: bool,
+    line: &Line,
+    sizes: &mut Given,
+    counts: &mut Counts,
+) -> io::Result<()> {
     if !ok {
         sizes[SOUND] = 0;
-        show(line, counts);
+        show(rt, line, counts)?;
     }
     if sizes[NEXT] == DONE && sizes[SOUND] == 1 {
         count_sheet(AGREE, sizes, counts);
     }
+    Ok(())
 }
 
 /// Reckons outward a sheet whose gaps are on a line, if it was run just before.
 fn compare_gaps(
+    rt: &impl Print,
     line: &Line,
     a: &Given,
     sizes: &mut Given,
@@ -662,25 +675,32 @@ fn compare_gaps(
     flags: &Flags,
     reals: &Reals,
     counts: &mut Counts,
-) {
+) -> io::Result<()> {
     if sizes[NEXT] == GAPS {
         sizes[NEXT] = if outputs_of(sizes) == 0 { DONE } else { 0 };
         let ok = gap_agrees(outward_answer(sizes, words, flags, reals), a);
-        settle(ok, line, sizes, counts);
+        settle(rt, ok, line, sizes, counts)
     } else {
-        refuse(line, counts);
+        refuse(rt, line, counts)
     }
 }
 
 /// Compares places of an output.
-fn compare(line: &Line, a: &Given, sizes: &mut Given, words: &Words, counts: &mut Counts) {
+fn compare(
+    rt: &impl Print,
+    line: &Line,
+    a: &Given,
+    sizes: &mut Given,
+    words: &Words,
+    counts: &mut Counts,
+) -> io::Result<()> {
     let n = listed(a, sizes);
     if n == 0 {
-        refuse(line, counts);
+        refuse(rt, line, counts)
     } else {
         let place = least(sizes[NEXT], DONE - n);
         sizes[NEXT] = after(place + n, outputs_of(sizes));
-        settle(same_places(place, n, a, words), line, sizes, counts);
+        settle(rt, same_places(place, n, a, words), line, sizes, counts)
     }
 }
 
@@ -725,6 +745,7 @@ fn change(
 
 /// Runs a sheet whose answer is on a line.
 fn run_sheet(
+    rt: &impl Print,
     line: &Line,
     a: &Given,
     sizes: &mut Given,
@@ -732,102 +753,114 @@ fn run_sheet(
     flags: &Flags,
     reals: &Reals,
     counts: &mut Counts,
-) {
+) -> io::Result<()> {
     open(sizes, counts);
     let ok = agrees(run(sizes, words, flags, reals), a);
-    settle(ok, line, sizes, counts);
+    settle(rt, ok, line, sizes, counts)
 }
 
 /// Runs a line.
 fn run_line(
+    rt: &impl Print,
     line: &Line,
     sizes: &mut Given,
     words: &mut Words,
     flags: &mut Flags,
     reals: &mut Reals,
     counts: &mut Counts,
-) {
+) -> io::Result<()> {
     let mut a = [0usize; 8];
     let letter = letter_of(line, &mut a);
     if letter == b'G' {
-        run_sheet(line, &a, sizes, words, flags, reals, counts);
+        run_sheet(rt, line, &a, sizes, words, flags, reals, counts)?;
     } else if letter == b'O' {
-        compare_gaps(line, &a, sizes, words, flags, reals, counts);
+        compare_gaps(rt, line, &a, sizes, words, flags, reals, counts)?;
     } else if letter == b'L' {
-        compare(line, &a, sizes, words, counts);
+        compare(rt, line, &a, sizes, words, counts)?;
     } else if !change(letter, &a, sizes, words, flags, reals) {
-        refuse(line, counts);
+        refuse(rt, line, counts)?;
     }
+    Ok(())
 }
 
 /// Reads and runs the next line, and answers whether there may be another. What is left of a line cut short stays 0, so
 /// such a line has not the form of one.
-fn run_next(
+fn run_next<I: Read, R: Print>(
+    input: &mut I,
+    rt: &R,
     sizes: &mut Given,
     words: &mut Words,
     flags: &mut Flags,
     reals: &mut Reals,
     counts: &mut Counts,
-) -> bool {
+) -> io::Result<bool> {
     let mut line = [0u8; 138];
-    let got = io::read_full(0, &mut line);
+    let got = read_full(input, &mut line)?;
     if got > 0 {
-        run_line(&line, sizes, words, flags, reals, counts);
+        run_line(rt, &line, sizes, words, flags, reals, counts)?;
     }
-    got == LINE
+    Ok(got == LINE)
 }
 
 /// A proved loop has to end, and nothing says that the input does. So the loop counts its turns down, from a number that
 /// no run uses up.
-fn run_table(
+fn run_table<I: Read, R: Print>(
+    input: &mut I,
+    rt: &R,
     sizes: &mut Given,
     words: &mut Words,
     flags: &mut Flags,
     reals: &mut Reals,
     counts: &mut Counts,
-) {
+) -> io::Result<()> {
     let mut turns = u64::MAX;
-    while turns > 0 && run_next(sizes, words, flags, reals, counts) {
+    while turns > 0 && run_next(input, rt, sizes, words, flags, reals, counts)? {
         turns -= 1;
     }
+    Ok(())
 }
 
 /// Writes how many sheets were run and how many differ. No more agree than were run.
-fn report(counts: &Counts, place: usize)
+fn report(rt: &impl Print, counts: &Counts, place: usize) -> io::Result<()>
     requires { place ≤ 12 }
 {
     let run = counts[place];
     let agree = counts[AGREE + place];
-    io::print_decimal(1, run);
-    io::write_all(1, b" sheets, ");
-    io::print_decimal(1, if agree < run { run - agree } else { 0 });
-    io::write_all(1, b" differ\n");
+    let differ = if agree < run { run - agree } else { 0 };
+    println!(rt; "{run} sheets, {differ} differ")
 }
 
 /// The same of a class.
-fn report_class(counts: &Counts, class: usize)
+fn report_class(rt: &impl Print, counts: &Counts, class: usize) -> io::Result<()>
     requires { class ≤ 12 }
 {
-    io::write_all(1, b"class ");
-    io::print_decimal(1, class as u64);
-    io::write_all(1, b": ");
-    report(counts, class);
+    print!(rt; "class {class}: ")?;
+    report(rt, counts, class)
 }
 
 /// And of all classes.
-fn report_classes(counts: &Counts) {
+fn report_classes(rt: &impl Print, counts: &Counts) -> io::Result<()> {
     for class in 0..CLASSES {
-        report_class(counts, class);
+        report_class(rt, counts, class)?;
     }
+    Ok(())
 }
 
-fn main() {
+fn main(rt: HostRuntime) -> io::Result<()> {
     let mut counts = [0u64; 27];
     let mut sizes = [0usize; 8];
     let mut words = [0usize; 7403];
     let mut flags = [0u8; 1424];
     let mut reals = [0f64; 6700];
-    run_table(&mut sizes, &mut words, &mut flags, &mut reals, &mut counts);
-    report_classes(&counts);
-    report(&counts, ALL);
+    run_table(
+        &mut rt.stdin(),
+        &rt,
+        &mut sizes,
+        &mut words,
+        &mut flags,
+        &mut reals,
+        &mut counts,
+    )?;
+    report_classes(&rt, &counts)?;
+    report(&rt, &counts, ALL)
 }

@@ -1,8 +1,9 @@
 // Reads a sheet from standard input, to its end, and writes the answer to standard output.
-ghost use Rattle.std.specs.Prelude.{◌+◌, ◌≤◌, length};
-ghost use Rattle.io.specs.Counts.{IsPrefixLen};
+#![tactic(auto)]
 
-use libc::{STDERR_FILENO, STDIN_FILENO, STDOUT_FILENO};
+ghost use Rattle.std.specs.Prelude.{◌+◌, ◌≤◌, length};
+
+use std::io::Read;
 use text_words::MOST_BYTES;
 use weigh_text::{MOST_ANSWER, weigh_text};
 
@@ -17,25 +18,30 @@ struct Input {
 }
 
 // One read behind the first `used` bytes: how many came, none at the end of the input or where it failed.
-fn read_behind(text: &mut [u8], used: usize) -> Input
+fn read_behind<I: Read>(input: &mut I, text: &mut [u8], used: usize) -> Input
     requires { used ≤ length text.old }
     ensures { result.length + used ≤ length text.old }
 {
-    let got = libc::read(STDIN_FILENO, &mut text[used..]);
-    Input {
-        length: io::count(got, &text[used..]),
-        failed: got < 0,
+    match input.read(&mut text[used..]) {
+        Ok(came) => Input {
+            length: came,
+            failed: false,
+        },
+        Err(_) => Input {
+            length: 0,
+            failed: true,
+        },
     }
 }
 
 // Reads until the input ends, a read fails or the text is full.
-fn read_text(text: &mut [u8]) -> Input
-    ensures { IsPrefixLen result.length text.new }
+fn read_text<I: Read>(input: &mut I, text: &mut [u8]) -> Input
+    ensures { result.length ≤ length text.new }
 {
     let mut used = 0;
     let mut failed = false;
     while used < text.len() {
-        let more = read_behind(text, used);
+        let more = read_behind(input, text, used);
         if more.length == 0 {
             failed = more.failed;
             break;
@@ -49,38 +55,42 @@ fn read_text(text: &mut [u8]) -> Input
 }
 
 // Reads once what is past any sheet, and answers whether there may be more.
-fn pass_over() -> bool {
-    let mut chunk = io::buffer();
-    0 < libc::read(STDIN_FILENO, &mut chunk)
+fn pass_over<I: Read>(input: &mut I) -> bool {
+    let mut chunk = [0u8; 4096];
+    match input.read(&mut chunk) {
+        Ok(came) => 0 < came,
+        Err(_) => false,
+    }
 }
 
 // Reads to the end of the input. A proved loop has to end, and nothing says that the input does: the turns are counted
 // down from a number that no run uses up.
-fn read_on() {
+fn read_on<I: Read>(input: &mut I) {
     let mut turns = u64::MAX;
-    while turns > 0 && pass_over() {
+    while turns > 0 && pass_over(input) {
         turns -= 1;
     }
 }
 
 // Answers the text, and says on standard error where the answer cannot be written.
-fn answer(text: &[u8]) {
+fn answer<R: Print + Eprint>(rt: &R, text: &[u8]) {
     let mut out = [0u8; MOST_ANSWER];
     let length = weigh_text(text, &mut out);
-    if !io::write_all(STDOUT_FILENO, &out[..length]) {
-        io::write_all(STDERR_FILENO, b"weigh: the answer cannot be written\n");
+    if rt.write_all(&out[..length]).is_err() {
+        let _ = rt.eprintln("weigh: the answer cannot be written");
     }
 }
 
-fn main() {
+fn main(rt: HostRuntime) {
     let mut text = [0u8; ROOM];
-    let input = read_text(&mut text);
+    let mut stdin = rt.stdin();
+    let input = read_text(&mut stdin, &mut text);
     if input.failed {
-        io::write_all(STDERR_FILENO, b"weigh: standard input cannot be read\n");
+        let _ = rt.eprintln("weigh: standard input cannot be read");
         return;
     }
     if input.length == ROOM {
-        read_on();
+        read_on(&mut stdin);
     }
-    answer(&text[..input.length]);
+    answer(&rt, &text[..input.length]);
 }

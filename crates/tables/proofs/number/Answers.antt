@@ -28,7 +28,7 @@ below d h n = omega (arith, n)
 
 pub overflow_mul-value : goal.overflow_mul-value
 overflow_mul-value c =
-    omega (arith, digit_more c.loop-i.value c.digit-d.result c.loop-i.i c.loop-i.invariant.1.1.0 (below c.digit-d.result c.digit-d.ensures.1 c.if-d-eq16.false), pow_fits (suc c.loop-i.i) (omega arith))
+    omega (arith, digit_more c.loop-i.value 0 c.loop-i.i c.loop-i.invariant.1.1.0 (omega arith), pow_fits (suc c.loop-i.i) (omega arith))
 
 pub overflow_add-value : goal.overflow_add-value
 overflow_add-value c =
