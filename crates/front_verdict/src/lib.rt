@@ -1,4 +1,7 @@
 //! The verdict on lists that stand at the front of longer ones.
+
+#![tactic(auto)]
+
 ghost use Rattle.std.specs.Prelude.{◌≡◌, T};
 ghost use Rattle.gaps.specs.Rows.{ranges_of, rows_of};
 ghost use Rattle.gaps.specs.ThirdDemand.{NoPoint};

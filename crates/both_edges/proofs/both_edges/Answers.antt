@@ -1,5 +1,4 @@
 -- `both_edges` meets its contract. Assumes nothing.
-use borrow.Author.Rules.{rules}
 use mathlib.Core.Bool.{true, false}
 use Rattle.variable_bounds.specs.Model.{Model, model}
 use Rattle.both_edges.proofs.Pairs.{held_edge, moved_edge}

@@ -1,8 +1,5 @@
 -- `mentioned` meets its contract. Assumes nothing.
-use borrow.Author.Rules.{rules}
-use Prim.Native.Nat.{◌-◌}
-use lib.ListN.{length}
-use Rattle.both_edges.proofs.Pairs.{Others, none_seen, one_seen, is_seen, all_seen}
+use Rattle.both_edges.proofs.Pairs.{none_seen, one_seen, is_seen, all_seen}
 use Rattle.both_edges.proofs.mentioned.Goals as goal
 
 pub loop-k-init : goal.loop-k-init

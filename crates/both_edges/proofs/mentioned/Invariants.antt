@@ -1,8 +1,7 @@
 -- `mentioned` meets its contract. Assumes nothing.
-use borrow.Author.Rules.{rules}
 use Prim.Native.Nat.{◌-◌}
 use lib.ListN.{length}
-use Rattle.both_edges.proofs.Pairs.{Others, none_seen, one_seen, is_seen, all_seen}
+use Rattle.both_edges.proofs.Pairs.{Others}
 use Rattle.both_edges.proofs.mentioned.Given as goal
 
 abbrev pub invariant-loop-k : goal.invariant-loop-k

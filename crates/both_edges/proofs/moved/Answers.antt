@@ -1,5 +1,4 @@
 -- `moved` meets its contract. Assumes nothing.
-use borrow.Author.Rules.{rules}
 use mathlib.Core.Path.{refl, sym, ◌∙◌}
 use Rattle.cdouble.proofs.Contracts.{when_true, when_false}
 use Rattle.both_edges.proofs.moved.Goals as goal

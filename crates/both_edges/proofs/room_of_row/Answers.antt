@@ -1,5 +1,4 @@
 -- `room_of_row` meets its contract. Assumes nothing.
-use borrow.Author.Rules.{rules}
 use native.Mathlib.Omega.{arith}
 use Rattle.row_questions.specs.Rows.{part}
 use Rattle.both_edges.proofs.room_of_row.Goals as goal

@@ -1,5 +1,4 @@
 -- `rooms` meets its contract. Assumes nothing.
-use borrow.Author.Rules.{rules}
 use Rattle.variable_bounds.specs.Model.{Model, model}
 use Rattle.both_edges.proofs.Pairs.{structural_rooms, slack_rooms, row_inside}
 use Rattle.both_edges.proofs.rooms.Goals as goal

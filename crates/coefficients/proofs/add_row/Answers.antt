@@ -1,7 +1,6 @@
 -- `add_row` meets its contract. Assumes nothing.
 use Rattle.row_questions.specs.Rows.{part}
 use Rattle.coefficients.proofs.Rows.{entries_fit, row_added}
-use borrow.Author.Rules.{rules}
 use Rattle.coefficients.proofs.add_row.Goals as goal
 
 pub multiplier_at-m-requires : goal.multiplier_at-m-requires

@@ -1,12 +1,7 @@
 -- `add_rows` meets its contract. Assumes nothing.
 use native.Mathlib.Omega.{arith}
-use borrow.Author.Rules.{rules}
-use Prim.Native.Nat.{◌-◌}
 use lib.Ieee.{of_bits}
-use mathlib.Core.List.{[]}
-use Rattle.certificate.specs.System.{system}
-use Rattle.coefficients.specs.Ends.{Added}
-use Rattle.exact.proofs.Turns.{UpTo, finish}
+use Rattle.exact.proofs.Turns.{finish}
 use Rattle.coefficients.proofs.Rows.{first_row, row_asks, next_row, to_written}
 use Rattle.coefficients.proofs.add_rows.Goals as goal
 

@@ -1,13 +1,9 @@
 -- `add_rows` meets its contract. Assumes nothing.
-use native.Mathlib.Omega.{arith}
-use borrow.Author.Rules.{rules}
 use Prim.Native.Nat.{◌-◌}
-use lib.Ieee.{of_bits}
 use mathlib.Core.List.{[]}
 use Rattle.certificate.specs.System.{system}
 use Rattle.coefficients.specs.Ends.{Added}
-use Rattle.exact.proofs.Turns.{UpTo, finish}
-use Rattle.coefficients.proofs.Rows.{first_row, row_asks, next_row, to_written}
+use Rattle.exact.proofs.Turns.{UpTo}
 use Rattle.coefficients.proofs.add_rows.Given as goal
 
 abbrev pub invariant-loop-r : goal.invariant-loop-r

@@ -1,7 +1,6 @@
 -- `add_term` meets its contract. Assumes nothing.
 use mathlib.Core.Path.{ap}
 use lib.ListN.{set}
-use borrow.Author.Rules.{rules}
 use Rattle.coefficients.proofs.add_term.Goals as goal
 
 pub returns : goal.returns

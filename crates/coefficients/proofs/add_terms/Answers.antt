@@ -1,10 +1,5 @@
 -- `add_terms` meets its contract. Assumes nothing.
-use borrow.Author.Rules.{rules}
-use Prim.Native.Nat.{◌-◌}
-use lib.ListN.{length}
-use Rattle.gaps.specs.Steps.{after_entries}
-use Rattle.coefficients.specs.Ends.{Ends}
-use Rattle.exact.proofs.Turns.{UpTo, finish}
+use Rattle.exact.proofs.Turns.{finish}
 use Rattle.coefficients.proofs.Ends.{first_entry, entry_asks, next_entry}
 use Rattle.coefficients.proofs.add_terms.Goals as goal
 

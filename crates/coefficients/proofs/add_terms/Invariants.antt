@@ -1,11 +1,9 @@
 -- `add_terms` meets its contract. Assumes nothing.
-use borrow.Author.Rules.{rules}
 use Prim.Native.Nat.{◌-◌}
 use lib.ListN.{length}
 use Rattle.gaps.specs.Steps.{after_entries}
 use Rattle.coefficients.specs.Ends.{Ends}
-use Rattle.exact.proofs.Turns.{UpTo, finish}
-use Rattle.coefficients.proofs.Ends.{first_entry, entry_asks, next_entry}
+use Rattle.exact.proofs.Turns.{UpTo}
 use Rattle.coefficients.proofs.add_terms.Given as goal
 
 abbrev pub invariant-loop-k : goal.invariant-loop-k

@@ -1,6 +1,5 @@
 -- `keep_row` meets its contract. Assumes nothing.
 use Rattle.coefficients.proofs.Ends.{row_zeroed, row_dropped, row_kept}
-use borrow.Author.Rules.{rules}
 use Rattle.coefficients.proofs.keep_row.Goals as goal
 
 pub returns-in-Zeroed : goal.returns-in-Zeroed

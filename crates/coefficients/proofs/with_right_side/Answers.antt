@@ -1,7 +1,6 @@
 -- `with_right_side` meets its contract. Assumes nothing.
 use Rattle.doubles.specs.Directed.{sum_down, product_down}
 use Rattle.coefficients.proofs.Ends.{scaled, side_zeroed, side_dropped, side_kept}
-use borrow.Author.Rules.{rules}
 use Rattle.coefficients.proofs.with_right_side.Goals as goal
 
 pub returns-in-Zeroed : goal.returns-in-Zeroed

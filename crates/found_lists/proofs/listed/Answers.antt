@@ -1,6 +1,5 @@
 -- `listed` meets its contract. Assumes nothing.
 use Rattle.found_lists.proofs.Listing.{amiss, fine}
-use borrow.Author.Rules.{rules}
 use Rattle.found_lists.proofs.listed.Goals as goal
 
 pub returns-then-found : goal.returns-then-found

@@ -1,6 +1,5 @@
 -- `put_item` meets its contract. Assumes nothing.
 use Rattle.found_lists.proofs.Listing.{put, passed}
-use borrow.Author.Rules.{rules}
 use Rattle.found_lists.proofs.put_item.Goals as goal
 
 pub returns-then-set : goal.returns-then-set

@@ -1,7 +1,6 @@
 -- `put_items` meets its contract. Assumes nothing.
 use native.Mathlib.Omega.{arith}
-use Prim.Native.Nat.{◌*◌, ◌-◌}
-use Rattle.found_lists.proofs.Listing.{Listing, first, has_place, next, done, variables-long, sides_long}
+use Rattle.found_lists.proofs.Listing.{first, has_place, next, done, variables-long, sides_long}
 use Rattle.found_lists.proofs.put_items.Goals as goal
 
 pub loop-m-init : goal.loop-m-init

@@ -4,7 +4,6 @@ use Rattle.sheet.specs.Sheet.{Sheet, sheet}
 use Rattle.added_row.specs.Added.{lists}
 use Rattle.kept.specs.Kept.{outputs, sizes, lent, Lent}
 use Rattle.kept.proofs.Whole.{accepts, answer_full, answer-refused}
-use borrow.Author.Rules.{rules}
 use Rattle.kept.proofs.proof_of.Goals as goal
 use Rattle.kept.proofs.proof_of.Tie as tie
 use Rattle.kept.proofs.proof_of.Reads as reads

@@ -10,7 +10,6 @@ use Rattle.added_row.specs.Added.{Lists, lists}
 use Rattle.kept.specs.Kept.{outputs, sizes}
 use Rattle.kept.proofs.Fits.{few_variables}
 use Rattle.kept.proofs.Whole.{certificate_asks, judge_asks, filled_in_lem, kept_is}
-use borrow.Author.Rules.{rules}
 use Rattle.kept.proofs.weighed.Goals as goal
 use Rattle.kept.proofs.weighed.Tie as tie
 use Rattle.kept.proofs.weighed.Reads as reads

@@ -1,6 +1,5 @@
 -- `at_edge_lem` meets its contract. Assumes nothing.
 use Rattle.largest.proofs.Walk.{at_edge_lem}
-use borrow.Author.Rules.{rules}
 use Rattle.largest.proofs.at_edge.Goals as goal
 
 pub returns : goal.returns

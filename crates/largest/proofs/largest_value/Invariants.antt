@@ -1,12 +1,9 @@
 -- `largest_value` meets its contract. Assumes nothing.
-use native.Mathlib.Omega.{arith}
-use borrow.Author.Rules.{rules}
 use Prim.Native.Nat.{◌-◌}
-use lib.Ieee.{of_bits, nan_bits}
 use Rattle.variable_bounds.specs.Model.{model}
 use Rattle.gaps.specs.Rows.{ranges_in}
 use Rattle.largest.specs.Walk.{at}
-use Rattle.largest.proofs.Walk.{Walking, first_variable, next_variable, walk_ends, all_walked}
+use Rattle.largest.proofs.Walk.{Walking}
 use Rattle.largest.proofs.largest_value.Given as goal
 
 abbrev pub invariant-loop-v : goal.invariant-loop-v

@@ -1,6 +1,5 @@
 -- `limited` meets its contract. Assumes nothing.
 use Rattle.largest.proofs.Walk.{is_limited}
-use borrow.Author.Rules.{rules}
 use Rattle.largest.proofs.limited.Goals as goal
 
 pub returns : goal.returns

@@ -1,10 +1,9 @@
 -- `step` meets its contract. Assumes nothing.
-use Rattle.variable_bounds.specs.Model.{Model, model}
+use Rattle.variable_bounds.specs.Model.{model}
 use Rattle.gaps.specs.Rows.{ranges_in}
 use Rattle.largest.specs.declared.Range.{Range}
 use Rattle.largest.specs.Walk.{range_at}
 use Rattle.largest.proofs.Walk.{step_skips, step_ends, step_counts}
-use borrow.Author.Rules.{rules}
 use mathlib.Core.Path.{ap}
 use mathlib.Core.Bool.{not}
 use Rattle.largest.proofs.step.Goals as goal

@@ -1,6 +1,5 @@
 -- `term` meets its contract. Assumes nothing.
 use Rattle.largest.proofs.Walk.{term_at_high, term_at_low, term_at_both}
-use borrow.Author.Rules.{rules}
 use mathlib.Core.Path.{ap}
 use mathlib.Core.Bool.{not}
 use Rattle.largest.proofs.term.Goals as goal

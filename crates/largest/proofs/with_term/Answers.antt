@@ -1,6 +1,5 @@
 -- `with_term` meets its contract. Assumes nothing.
 use Rattle.largest.proofs.Walk.{without_term, and_term}
-use borrow.Author.Rules.{rules}
 use Rattle.largest.proofs.with_term.Goals as goal
 
 pub returns-then-skipped : goal.returns-then-skipped

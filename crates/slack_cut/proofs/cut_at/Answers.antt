@@ -2,7 +2,6 @@
 use lib.Ieee.{of_bits}
 use Rattle.variable_bounds.specs.Model.{Model, model}
 use Rattle.slack_cut.proofs.Ways.{cut_structural, cut_not_finite, cut_slack}
-use borrow.Author.Rules.{rules}
 use mathlib.Core.Path.{ap}
 use mathlib.Core.Bool.{not}
 use Rattle.slack_cut.proofs.cut_at.Goals as goal

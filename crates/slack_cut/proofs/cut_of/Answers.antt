@@ -1,7 +1,6 @@
 -- `cut_of` meets its contract. Assumes nothing.
 use lib.Ieee.{of_bits}
 use Rattle.slack_cut.proofs.Ways.{cut_of_is}
-use borrow.Author.Rules.{rules}
 use Rattle.slack_cut.proofs.cut_of.Goals as goal
 
 pub returns : goal.returns

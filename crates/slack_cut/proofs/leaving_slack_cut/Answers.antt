@@ -5,7 +5,6 @@ use Rattle.row_questions.specs.Rows.{part}
 use Rattle.widening_rooms.specs.Reads.{RowReadable}
 use Prim.Native.Nat.{◌-◌}
 use Rattle.slack_cut.proofs.Ways.{leaving_slack_cut_is}
-use borrow.Author.Rules.{rules}
 use Rattle.slack_cut.proofs.leaving_slack_cut.Goals as goal
 use Rattle.slack_cut.proofs.leaving_slack_cut.Tie as tie
 use Rattle.slack_cut.proofs.leaving_slack_cut.Reads as reads

@@ -6,7 +6,6 @@ use Rattle.added_row.specs.Added.{lists}
 use Rattle.kept.specs.Kept.{Lent, lent, outputs, sizes}
 use Rattle.kept.proofs.Whole.{accepts}
 use Rattle.verdict.proofs.Whole.{verdict_full, verdict-refused}
-use borrow.Author.Rules.{rules}
 use Rattle.verdict.proofs.verdict_of.Goals as goal
 use Rattle.verdict.proofs.verdict_of.Tie as tie
 use Rattle.verdict.proofs.verdict_of.Reads as reads

@@ -3,7 +3,6 @@ use native.Mathlib.Omega.{arith}
 use lib.Ieee.{of_bits}
 use Rattle.added_row.specs.Added.{lists}
 use Rattle.walk_step.proofs.Ways.{with_bounds_lem, without_bounds}
-use borrow.Author.Rules.{rules}
 use Rattle.walk_step.proofs.coefficient_at.Goals as goal
 
 pub overflow_cast-count : goal.overflow_cast-count

@@ -5,7 +5,6 @@ use Rattle.variable_bounds.specs.Model.{Model, model}
 use Rattle.walk_states.specs.declared.steps.Coefficient.{Coefficient}
 use Rattle.walk_step.specs.Step.{coefficient_at}
 use Rattle.walk_step.proofs.Ways.{step_skips, step_spoilt, step_infinite, step_counts}
-use borrow.Author.Rules.{rules}
 use mathlib.Core.Path.{ap}
 use mathlib.Core.Bool.{not}
 use Rattle.walk_step.proofs.step.Goals as goal

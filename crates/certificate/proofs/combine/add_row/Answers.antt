@@ -3,7 +3,6 @@ use native.Mathlib.Omega.{arith}
 use mathlib.Core.Path.{refl}
 use Rattle.row_questions.specs.Rows.{part}
 use Rattle.certificate.proofs.Rows.{row_fits, errors_fit, sums_fit, row_added}
-use borrow.Author.Rules.{rules}
 use Rattle.certificate.proofs.combine.add_row.Goals as goal
 
 pub keep_row-requires : goal.keep_row-requires

@@ -1,13 +1,9 @@
 -- `add_rows` meets its contract. Assumes nothing.
-use native.Mathlib.Omega.{arith}
-use borrow.Author.Rules.{rules}
 use Prim.Native.Nat.{◌-◌}
-use lib.Ieee.{of_bits}
 use Rattle.certificate.specs.System.{system}
 use Rattle.certificate.specs.Certificate.{after_rows, certificate}
 use Rattle.added_row.specs.Added.{lists, no_sums}
-use Rattle.exact.proofs.Turns.{Turn, done}
-use Rattle.certificate.proofs.Rows.{first_row, rows_same, errors_same, row_goes_on, next_row}
+use Rattle.exact.proofs.Turns.{Turn}
 use Rattle.certificate.proofs.combine.add_rows.Given as goal
 
 abbrev pub invariant-loop-r : goal.invariant-loop-r

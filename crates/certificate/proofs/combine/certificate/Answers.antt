@@ -1,7 +1,6 @@
 -- `certificate` meets its contract. Assumes nothing.
 use mathlib.Core.Path.{◌∙◌}
 use Rattle.certificate.proofs.Written.{certificate_goes_on, certificate_is}
-use borrow.Author.Rules.{rules}
 use Rattle.certificate.proofs.combine.certificate.Goals as goal
 
 pub add_rows-requires : goal.add_rows-requires

@@ -1,12 +1,9 @@
 -- `clear` meets its contract. Assumes nothing.
-use borrow.Author.Rules.{rules}
 use lib.Ieee.{of_bits}
-use Prim.Native.Nat.{◌-◌}
 use native.Mathlib.Omega.{arith}
 use mathlib.Core.Path.{refl}
 use Rattle.cdouble.specs.Compensated.{plus_zero}
-use Rattle.certificate.specs.Certificate.{filled}
-use Rattle.exact.proofs.Turns.{Turn, done}
+use Rattle.exact.proofs.Turns.{done}
 use Rattle.certificate.proofs.Turns.{first_place, next_place, places_same}
 use Rattle.certificate.proofs.combine.clear.Goals as goal
 

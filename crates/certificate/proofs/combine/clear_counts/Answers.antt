@@ -1,10 +1,7 @@
 -- `clear_counts` meets its contract. Assumes nothing.
-use borrow.Author.Rules.{rules}
-use Prim.Native.Nat.{◌-◌}
 use native.Mathlib.Omega.{arith}
 use mathlib.Core.Path.{refl}
-use Rattle.certificate.specs.Certificate.{filled}
-use Rattle.exact.proofs.Turns.{Turn, done}
+use Rattle.exact.proofs.Turns.{done}
 use Rattle.certificate.proofs.Turns.{first_place, next_place, places_same}
 use Rattle.certificate.proofs.combine.clear_counts.Goals as goal
 

@@ -1,11 +1,7 @@
 -- `clear_counts` meets its contract. Assumes nothing.
-use borrow.Author.Rules.{rules}
 use Prim.Native.Nat.{◌-◌}
-use native.Mathlib.Omega.{arith}
-use mathlib.Core.Path.{refl}
 use Rattle.certificate.specs.Certificate.{filled}
-use Rattle.exact.proofs.Turns.{Turn, done}
-use Rattle.certificate.proofs.Turns.{first_place, next_place, places_same}
+use Rattle.exact.proofs.Turns.{Turn}
 use Rattle.certificate.proofs.combine.clear_counts.Given as goal
 
 abbrev pub invariant-loop-k : goal.invariant-loop-k

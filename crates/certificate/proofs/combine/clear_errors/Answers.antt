@@ -1,7 +1,6 @@
 -- `clear_errors` meets its contract. Assumes nothing.
 use Rattle.cdouble.proofs.Contracts.{when_true, when_false}
 use mathlib.Core.Path.{refl}
-use borrow.Author.Rules.{rules}
 use Rattle.certificate.proofs.combine.clear_errors.Goals as goal
 
 pub returns-then-estimated : goal.returns-then-estimated

@@ -3,7 +3,6 @@ use Rattle.certificate.specs.Certificate.{certificate}
 use Rattle.added_row.specs.Added.{lists}
 use Rattle.variable_bounds.specs.Model.{Model, model}
 use Rattle.judgement.proofs.Ways.{judgement_is}
-use borrow.Author.Rules.{rules}
 use Rattle.judgement.proofs.gap.judge.Goals as goal
 use Rattle.judgement.proofs.gap.judge.Tie as tie
 use Rattle.judgement.proofs.gap.judge.Reads as reads

@@ -1,7 +1,6 @@
 -- `judged` meets its contract. Assumes nothing.
 use Rattle.variable_bounds.specs.Model.{Model, model}
 use Rattle.judgement.proofs.Ways.{judged_is}
-use borrow.Author.Rules.{rules}
 use Rattle.judgement.proofs.gap.judged.Goals as goal
 use Rattle.judgement.proofs.gap.judged.Tie as tie
 use Rattle.judgement.proofs.gap.judged.Reads as reads

@@ -5,7 +5,6 @@ use Rattle.doubles.proofs.Tests.{fit}
 use Rattle.sheet.specs.Sheet.{Doubles, Sheet, sheet}
 use Rattle.outward_sheet.proofs.Fits.{accepts, answer_full, answer-refused}
 use Rattle.outward_sheet.proofs.NoPoint.{no_point, none_above}
-use borrow.Author.Rules.{rules}
 use Rattle.outward_sheet.proofs.answer.outward_of.Goals as goal
 use Rattle.outward_sheet.proofs.answer.outward_of.Tie as tie
 use Rattle.outward_sheet.proofs.answer.outward_of.Reads as reads

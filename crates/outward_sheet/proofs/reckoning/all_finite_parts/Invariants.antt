@@ -1,13 +1,9 @@
 -- `all_finite_parts` meets its contract. Assumes nothing.
-use native.Mathlib.Omega.{arith}
-use borrow.Author.Rules.{rules}
 use mathlib.Core.List.{[]}
 use Prim.Native.Nat.{◌-◌}
-use Rattle.questions.proofs.All.{Passed, first, next, stop, done}
+use Rattle.questions.proofs.All.{Passed}
 use Rattle.certificate.specs.System.{multiplier_at, system}
 use Rattle.gaps.specs.Rows.{finite_parts}
-use mathlib.Core.Path.{ap, ◌∙◌}
-use mathlib.Core.Bool.{not}
 use Rattle.outward_sheet.proofs.reckoning.all_finite_parts.Given as goal
 
 abbrev pub invariant-loop-r : goal.invariant-loop-r

@@ -1,7 +1,6 @@
 -- `difference` meets its contract. Assumes nothing.
 use lib.Ieee.{nan_bits, of_bits}
 use Rattle.outward_sheet.proofs.Gap.{difference_infinite, difference_rounded}
-use borrow.Author.Rules.{rules}
 use Rattle.outward_sheet.proofs.reckoning.difference.Goals as goal
 
 pub float_from_bits-t-3 : goal.float_from_bits-t-3

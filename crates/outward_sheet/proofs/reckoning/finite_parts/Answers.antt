@@ -1,6 +1,5 @@
 -- `finite_parts` meets its contract. Assumes nothing.
 use Rattle.outward_sheet.proofs.Gap.{finite_zeroed, finite_dropped, finite-kept}
-use borrow.Author.Rules.{rules}
 use Rattle.outward_sheet.proofs.reckoning.finite_parts.Goals as goal
 
 pub returns-in-Zeroed : goal.returns-in-Zeroed

@@ -1,11 +1,10 @@
 -- `gap_in` meets its contract. Assumes nothing.
 use mathlib.Core.List.{[]}
 use Rattle.variable_bounds.specs.Model.{model}
-use Rattle.certificate.specs.System.{System, multiplier_at, system}
-use Rattle.gaps.specs.Rows.{Ranges, ranges_in, rows_in}
+use Rattle.certificate.specs.System.{System, system}
+use Rattle.gaps.specs.Rows.{Ranges, ranges_in}
 use Rattle.coefficients.proofs.Rows.{from_written}
 use Rattle.outward_sheet.proofs.Gap.{walk_asks, less_largest_lem}
-use borrow.Author.Rules.{rules}
 use Rattle.outward_sheet.proofs.reckoning.gap_in.Goals as goal
 use Rattle.outward_sheet.proofs.reckoning.gap_in.Tie as tie
 use Rattle.outward_sheet.proofs.reckoning.gap_in.Reads as reads

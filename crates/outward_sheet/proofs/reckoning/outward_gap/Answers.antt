@@ -7,7 +7,6 @@ use Rattle.variable_bounds.specs.Model.{model}
 use Rattle.certificate.specs.System.{System, multiplier_at, system}
 use Rattle.gaps.specs.Rows.{Ranges, ranges_in, rows_in}
 use Rattle.outward_sheet.proofs.Gap.{zeros_fit, gap_infinite, gap_reckoned}
-use borrow.Author.Rules.{rules}
 use mathlib.Core.Path.{ap}
 use mathlib.Core.Bool.{not}
 use Rattle.outward_sheet.proofs.reckoning.outward_gap.Goals as goal

@@ -1,16 +1,12 @@
 -- `walk_over` meets its contract. Assumes nothing.
-use native.Mathlib.Omega.{arith}
-use borrow.Author.Rules.{rules}
-use mathlib.Core.Path.{◌≡◌, refl}
+use mathlib.Core.Path.{◌≡◌}
 use Prim.Native.Nat.{◌-◌}
-use lib.Ieee.{of_bits}
 use Rattle.added_row.specs.declared.adding.Sums.{Sums}
 use Rattle.certificate.specs.Certificate.{certificate}
 use Rattle.added_row.specs.Added.{lists}
 use Rattle.variable_bounds.specs.Model.{model}
-use Rattle.walk_states.specs.declared.steps.End.TheVariants.{Spoilt, Unlimited}
 use Rattle.walk.specs.Walk.{started}
-use Rattle.walk.proofs.Turns.{Walking, first, lent_here, small, done, next, ended}
+use Rattle.walk.proofs.Turns.{Walking}
 use Rattle.walk.proofs.steps.walk_over.Given as goal
 
 abbrev pub invariant-walk : goal.invariant-walk

@@ -1,6 +1,5 @@
 -- `at_infinity` meets its contract. Assumes nothing.
 use Rattle.walk_states.proofs.Ways.{infinite_spoilt, infinite_zero, infinite_unlimited}
-use borrow.Author.Rules.{rules}
 use mathlib.Core.Path.{ap}
 use mathlib.Core.Bool.{not}
 use Rattle.walk_states.proofs.steps.at_infinity.Goals as goal

@@ -1,6 +1,5 @@
 -- `counted` meets its contract. Assumes nothing.
 use Rattle.walk_states.proofs.Ways.{counted_leaving, counted_other}
-use borrow.Author.Rules.{rules}
 use Rattle.walk_states.proofs.steps.counted.Goals as goal
 
 pub returns-then-leaving : goal.returns-then-leaving

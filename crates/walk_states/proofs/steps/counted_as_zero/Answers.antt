@@ -1,7 +1,6 @@
 -- `counted_as_zero` meets its contract. Assumes nothing.
 use mathlib.Core.Path.{refl}
 use Rattle.walk_states.specs.States.{counted_as_zero}
-use borrow.Author.Rules.{rules}
 use Rattle.walk_states.proofs.steps.counted_as_zero.Goals as goal
 
 pub returns : goal.returns

@@ -3,7 +3,6 @@ use mathlib.Core.Path.{ap}
 use lib.Ieee.{Float}
 use Rattle.cdouble.specs.Compensated.{◌⊕◌}
 use Rattle.walk_states.specs.States.{error_of_zero}
-use borrow.Author.Rules.{rules}
 use Rattle.walk_states.proofs.steps.error_of_zero.Goals as goal
 
 pub returns : goal.returns

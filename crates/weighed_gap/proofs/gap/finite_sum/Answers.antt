@@ -1,6 +1,5 @@
 -- `finite_sum` meets its contract. Assumes nothing.
 use Rattle.weighed_gap.proofs.Ways.{sum-finite, sum_spoilt}
-use borrow.Author.Rules.{rules}
 use Rattle.weighed_gap.proofs.gap.finite_sum.Goals as goal
 
 pub returns-then-is_finite : goal.returns-then-is_finite

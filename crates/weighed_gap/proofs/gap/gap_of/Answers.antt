@@ -2,7 +2,6 @@
 use mathlib.Core.Path.{ap, sym, ◌∙◌}
 use lib.Ieee.{of_bits, nan_bits, div}
 use Rattle.weighed_gap.specs.Gap.{gap_of}
-use borrow.Author.Rules.{rules}
 use Rattle.weighed_gap.proofs.gap.gap_of.Goals as goal
 
 pub float_from_bits-result : goal.float_from_bits-result

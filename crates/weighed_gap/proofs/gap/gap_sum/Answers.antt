@@ -3,7 +3,6 @@ use mathlib.Core.Path.{ap, sym}
 use lib.Ieee.{of_bits, neg}
 use Rattle.weighed_gap.specs.Gap.{gap_sum}
 use Rattle.weighed_gap.proofs.Ways.{gap_finite, gap_not_finite}
-use borrow.Author.Rules.{rules}
 use Rattle.weighed_gap.proofs.gap.gap_sum.Goals as goal
 
 pub returns-then-is_finite : goal.returns-then-is_finite

@@ -1,6 +1,5 @@
 -- `weigh` meets its contract. Assumes nothing.
 use Rattle.weighed_gap.proofs.Ways.{weigh_apart, weigh-plain, weigh-unlimited, weigh_spoilt}
-use borrow.Author.Rules.{rules}
 use Rattle.weighed_gap.proofs.gap.weigh.Goals as goal
 
 pub returns-then-leaving_room-cut : goal.returns-then-leaving_room-cut

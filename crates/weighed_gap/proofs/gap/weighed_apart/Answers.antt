@@ -1,6 +1,5 @@
 -- `weighed_apart` meets its contract. Assumes nothing.
 use Rattle.weighed_gap.proofs.Ways.{weighed_apart_is}
-use borrow.Author.Rules.{rules}
 use Rattle.weighed_gap.proofs.gap.weighed_apart.Goals as goal
 
 pub returns : goal.returns
