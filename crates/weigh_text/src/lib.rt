@@ -1,4 +1,7 @@
 //! The answer to a sheet's text: the verdict on the sheet that it says, or the number of a refusal, and its printed form.
+
+#![tactic(auto)]
+
 ghost use Rattle.std.specs.Prelude.{◌≡◌, ◌≤◌, T, length};
 ghost use Rattle.printer.specs.Answer.{written_if_fits};
 ghost use Rattle.gaps.specs.Rows.{ranges_of, rows_of};
