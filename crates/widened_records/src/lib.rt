@@ -1,5 +1,5 @@
-//! The widened list as records of a variable and a side, and the search of it. A function that holds a slice of records is
-//! proved by hand, so there is one that goes through it, once, for every variable and side at a time.
+//! The widened list as records of a variable and a side, and the search of it: one function goes through the list, once, for
+//! every variable and side at a time.
 
 #![tactic(auto)]
 
@@ -76,7 +76,7 @@ fn noted(mut found: Found, w: Widened, rows: usize, structurals: usize) -> Found
 /// that is longer than any without one amiss is gone through as far as that shows.
 pub fn search(list: &[Widened], rows: usize, structurals: usize) -> Found
     ensures value { result ≡ found_in (count_of rows structurals) (take most_widened list.now) }
-    ensures false_value { result.amiss ≡ false → (v : ℕ) (up : Bool) → v < count_of rows structurals → get_or result.marks (mark_of v up) false ≡ is_widened (variables_of list.now) (ups_of list.now) v up }
+    ensures marks_value { result.amiss ≡ false → (v : ℕ) (up : Bool) → v < count_of rows structurals → get_or result.marks (mark_of v up) false ≡ is_widened (variables_of list.now) (ups_of list.now) v up }
     ensures amiss_value { result.amiss ≡ not (widened_fine (count_of rows structurals) (variables_of list.now) (ups_of list.now)) }
 {
     let mut found = nothing_found();

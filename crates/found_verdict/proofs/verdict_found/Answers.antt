@@ -33,4 +33,4 @@ pub slice_bounds-verdict_of-end-2 : goal.slice_bounds-verdict_of-end-2
 slice_bounds-verdict_of-end-2 c = front_long _ (in_sides c.args.found (whole c.before.before.before.before.before.before.before.before.before.before.before.before.before.before.before.before.before.before.before.before.before.before.before.before.before.before.before.before.before.before.before.before.before.before.before) c.variable_count.ensures (c.listed-items.ensures.value, (c.listed-items.ensures.vars_after, c.listed-items.ensures.ups_after)))
 
 pub returns : goal.returns
-returns c = let all = found_full c.args.found (whole c.before.before.before.before.before.before.before.before.before.before.before.before.before.before.before.before.before.before.before.before.before.before.before.before.before.before.before.before.before.before.before.before.before.before.before.before.before.before.before.before.before.before.before.before.before.before) c.variable_count.ensures (c.listed-items.ensures.value, (c.listed-items.ensures.vars_after, c.listed-items.ensures.ups_after)) (before c.before.before.before.before.before.before.before.before.before.before.before.before.before.before.before.before.before.before.before.before.before.before.before.before.before.before.before.before.before.before.before.before.before.before.before.before.before.before.before.before.before.before.before.before.before.before) (c.verdict_of.ensures.value, (c.verdict_of.ensures.errors_after, c.verdict_of.ensures.no_point)) in record { value = all.0; errors_after = all.1.0; no_point = all.1.1 }
+returns c = let all = found_full c.args.found (whole c.before.before.before.before.before.before.before.before.before.before.before.before.before.before.before.before.before.before.before.before.before.before.before.before.before.before.before.before.before.before.before.before.before.before.before.before.before.before.before.before.before.before.before.before.before.before) c.variable_count.ensures (c.listed-items.ensures.value, (c.listed-items.ensures.vars_after, c.listed-items.ensures.ups_after)) (before c.before.before.before.before.before.before.before.before.before.before.before.before.before.before.before.before.before.before.before.before.before.before.before.before.before.before.before.before.before.before.before.before.before.before.before.before.before.before.before.before.before.before.before.before.before.before) (c.verdict_of.ensures.value, (c.verdict_of.ensures.lent_after, c.verdict_of.ensures.no_point)) in record { value = all.0; lent_after = all.1.0; no_point = all.1.1 }

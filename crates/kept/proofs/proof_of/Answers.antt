@@ -19,7 +19,7 @@ pub weighed-requires : goal.weighed-requires
 weighed-requires c = accepts (whole c.before.before.before.before.before.before.before.before.before.before.before.before.before.before.before.before.before.before.before.before.before.before.before.before.before.before.before.before.before.before.before.before) (before c.before.before.before.before.before.before.before.before.before.before.before.before.before.before.before.before.before.before.before.before.before.before.before.before.before.before.before.before.before.before.before.before) (c.number_of-number.ensures ∙ c.first_no.ensures) c.if-number-eq0.true
 
 pub returns-then-number-eq0 : goal.returns-then-number-eq0
-returns-then-number-eq0 c = let all = answer_full (whole c.before.before.before.before.before.before.before.before.before.before.before.before.before.before.before.before.before.before.before.before.before.before.before.before.before.before.before.before.before.before.before.before.before.before.before.before.before.before.before.before.before.before.before) (before c.before.before.before.before.before.before.before.before.before.before.before.before.before.before.before.before.before.before.before.before.before.before.before.before.before.before.before.before.before.before.before.before.before.before.before.before.before.before.before.before.before.before.before) (c.number_of-number.ensures ∙ c.first_no.ensures) c.if-number-eq0.true c.weighed.ensures.value c.weighed.ensures.errors_after in record { value = all.0; errors_after = all.1 }
+returns-then-number-eq0 c = let all = answer_full (whole c.before.before.before.before.before.before.before.before.before.before.before.before.before.before.before.before.before.before.before.before.before.before.before.before.before.before.before.before.before.before.before.before.before.before.before.before.before.before.before.before.before.before.before) (before c.before.before.before.before.before.before.before.before.before.before.before.before.before.before.before.before.before.before.before.before.before.before.before.before.before.before.before.before.before.before.before.before.before.before.before.before.before.before.before.before.before.before.before) (c.number_of-number.ensures ∙ c.first_no.ensures) c.if-number-eq0.true c.weighed.ensures.value c.weighed.ensures.lent_after in record { value = all.0; lent_after = all.1 }
 
 pub returns-else-number-eq0 : goal.returns-else-number-eq0
-returns-else-number-eq0 c = let all = answer-refused (whole c.before.before.before.before.before.before.before.before.before.before.before.before.before.before.before.before.before.before.before.before.before.before.before.before.before.before.before.before) (before c.before.before.before.before.before.before.before.before.before.before.before.before.before.before.before.before.before.before.before.before.before.before.before.before.before.before.before.before) (c.number_of-number.ensures ∙ c.first_no.ensures) c.if-number-eq0.false c.refused.ensures in record { value = all.0; errors_after = all.1 }
+returns-else-number-eq0 c = let all = answer-refused (whole c.before.before.before.before.before.before.before.before.before.before.before.before.before.before.before.before.before.before.before.before.before.before.before.before.before.before.before.before) (before c.before.before.before.before.before.before.before.before.before.before.before.before.before.before.before.before.before.before.before.before.before.before.before.before.before.before.before.before) (c.number_of-number.ensures ∙ c.first_no.ensures) c.if-number-eq0.false c.refused.ensures in record { value = all.0; lent_after = all.1 }

@@ -16,5 +16,5 @@ returns c =
     c.args.places.now c.args.values.now [] [] c.args.rho_hi.now c.args.rho_lo.now c.args.second.now in
     let all =
     entry_says unlisted c.args.widened.now before c.search-found.ensures.value
-    (c.verdict_found.ensures.value, (c.verdict_found.ensures.errors_after, c.verdict_found.ensures.no_point)) in
-    record { value = all.0; errors_after = all.1.0; no_point = all.1.1 }
+    (c.verdict_found.ensures.value, (c.verdict_found.ensures.lent_after, c.verdict_found.ensures.no_point)) in
+    record { value = all.0; lent_after = all.1.0; no_point = all.1.1 }

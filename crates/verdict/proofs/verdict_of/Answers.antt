@@ -38,7 +38,7 @@ returns-then-number-eq0 c = let doubles : Doubles (whole c.before.before.before.
       rho_lo_fit = record { fit_at = c.shared_slice_known-17-1.given };
       second_fit = record { fit_at = c.shared_slice_known-18-1.given };
       feasibility_fits = fit c.args.feasibility c.well_formed.1.1.1.0.1;
-    } in let all = verdict_full (whole c.before.before.before.before.before.before.before.before.before.before.before.before.before.before.before.before.before.before.before.before.before.before.before.before.before.before.before.before.before.before.before.before.before.before.before.before.before.before.before.before.before.before.before.before.before) (before c.before.before.before.before.before.before.before.before.before.before.before.before.before.before.before.before.before.before.before.before.before.before.before.before.before.before.before.before.before.before.before.before.before.before.before.before.before.before.before.before.before.before.before.before.before) (c.number_of-number.ensures ∙ c.first_no.ensures) c.if-number-eq0.true c.gap_of-outward.ensures c.weighed-kept.ensures.value c.answered.ensures c.weighed-kept.ensures.errors_after doubles in record { value = all.0; errors_after = all.1.0; no_point = all.1.1 }
+    } in let all = verdict_full (whole c.before.before.before.before.before.before.before.before.before.before.before.before.before.before.before.before.before.before.before.before.before.before.before.before.before.before.before.before.before.before.before.before.before.before.before.before.before.before.before.before.before.before.before.before.before) (before c.before.before.before.before.before.before.before.before.before.before.before.before.before.before.before.before.before.before.before.before.before.before.before.before.before.before.before.before.before.before.before.before.before.before.before.before.before.before.before.before.before.before.before.before.before) (c.number_of-number.ensures ∙ c.first_no.ensures) c.if-number-eq0.true c.gap_of-outward.ensures c.weighed-kept.ensures.value c.answered.ensures c.weighed-kept.ensures.lent_after doubles in record { value = all.0; lent_after = all.1.0; no_point = all.1.1 }
 
 pub returns-else-number-eq0 : goal.returns-else-number-eq0
-returns-else-number-eq0 c = let all = verdict-refused (whole c.before.before.before.before.before.before.before.before.before.before.before.before.before.before.before.before.before.before.before.before.before.before.before.before.before.before.before.before) (before c.before.before.before.before.before.before.before.before.before.before.before.before.before.before.before.before.before.before.before.before.before.before.before.before.before.before.before.before) (c.number_of-number.ensures ∙ c.first_no.ensures) c.if-number-eq0.false c.refused.ensures in record { value = all.0; errors_after = all.1.0; no_point = all.1.1 }
+returns-else-number-eq0 c = let all = verdict-refused (whole c.before.before.before.before.before.before.before.before.before.before.before.before.before.before.before.before.before.before.before.before.before.before.before.before.before.before.before.before) (before c.before.before.before.before.before.before.before.before.before.before.before.before.before.before.before.before.before.before.before.before.before.before.before.before.before.before.before.before) (c.number_of-number.ensures ∙ c.first_no.ensures) c.if-number-eq0.false c.refused.ensures in record { value = all.0; lent_after = all.1.0; no_point = all.1.1 }

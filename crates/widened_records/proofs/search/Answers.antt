@@ -38,8 +38,8 @@ pub returns-clause-value : goal.returns-clause-value
 returns-clause-value c =
     found_all (count_of c.args.rows c.args.structurals) c.args.list.now c.loop-i.i c.loop-i.found c.looked_at-end.ensures c.loop-i-test.false c.loop-i.invariant
 
-pub returns-clause-false_value : goal.returns-clause-false_value
-returns-clause-false_value c none v up l =
+pub returns-clause-marks_value : goal.returns-clause-marks_value
+returns-clause-marks_value c none v up l =
     let e = found_all (count_of c.args.rows c.args.structurals) c.args.list.now c.loop-i.i c.loop-i.found c.looked_at-end.ensures c.loop-i-test.false c.loop-i.invariant in
     ap (λ (d : Found). get_or d.marks (mark_of v up) false) e
     ∙ front_marks (count_of c.args.rows c.args.structurals) c.args.list.now (count_few c.args.rows c.args.structurals) (sym (ap (λ (d : Found). d.amiss) e) ∙ none) v up l
