@@ -1,7 +1,7 @@
 // Reads a sheet from standard input, to its end, and writes the answer to standard output.
 #![tactic(auto)]
 
-ghost use Rattle.std.specs.Prelude.{◌+◌, ◌≤◌, length};
+ghost use Rattle.std.specs.Prelude.{◌≡◌, ◌+◌, ◌≤◌, length, take};
 
 use std::io::Read;
 use text_words::MOST_BYTES;
@@ -36,7 +36,8 @@ fn read_behind<I: Read>(input: &mut I, text: &mut [u8], used: usize) -> Input
 
 // Reads until the input ends, a read fails or the text is full.
 fn read_text<I: Read>(input: &mut I, text: &mut [u8]) -> Input
-    ensures { result.length ≤ length text.new }
+    ensures within { result.length ≤ length text.new }
+    ensures front { result.length ≡ length (take result.length text.new) }
 {
     let mut used = 0;
     let mut failed = false;
