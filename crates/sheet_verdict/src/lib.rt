@@ -1,5 +1,8 @@
 //! The entry point: the verdict on a sheet whose widened list is lent as records. It searches the list and hands on the rest
 //! as it came.
+
+#![tactic(auto)]
+
 ghost use Rattle.std.specs.Prelude.{◌≡◌, T};
 ghost use Rattle.sheet.specs.Sheet.{sheet};
 ghost use Rattle.added_row.specs.Added.{lists};
