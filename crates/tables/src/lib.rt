@@ -11,7 +11,7 @@ ghost use Rattle.tables.specs.Table.{counted, digit_of, digits};
 use std::io;
 use std::io::Read;
 
-/// Reads until the bytes are full or the input ends, and answers how many came. What is left of the bytes stays.
+/// Reads until the bytes are full or the input ends, and answers how many came.
 pub fn read_full<R: Read>(input: &mut R, bytes: &mut [u8]) -> io::Result<usize>
     ensures { IfOk result (λ n. n ≤ length bytes.new) }
 {
