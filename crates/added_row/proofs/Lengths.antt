@@ -13,8 +13,7 @@ use Rattle.questions.specs.Flags.{is_set}
 use Rattle.added_row.specs.declared.adding.Sums.{Sums}
 use Rattle.multipliers.specs.declared.weighing.Multiplier.{Multiplier}
 use Rattle.multipliers.specs.declared.weighing.Multiplier.TheVariants.{Zeroed, Dropped, Kept}
-use Rattle.multipliers.specs.declared.weighing.Spread.{Spread}
-use Rattle.multipliers.specs.declared.weighing.Spread.TheVariants.{Nothing, By}
+use Rattle.std.proofs.Common.{Option, Some, None}
 use Rattle.added_row.specs.Added.{Lists, after_terms, kept_into, after_errors, spread_into, summed}
 use Rattle.added_row.specs.Reads.{Long}
 
@@ -67,10 +66,10 @@ after_errors_same distance basic columns entries (suc n) errors =
     let e = after_errors distance basic columns entries n errors in
     set_if (is_set (get_or basic v 0)) e v (get_or e v nan ⊕ distance ⊗ absolute (get_or entries n nan)) ∙ after_errors_same distance basic columns entries n errors
 
-pub spread_same : (s : Spread) (basic columns : List ℕ) (entries errors : List Float) → length (spread_into s basic columns entries errors) ≡ length errors
+pub spread_same : (s : Option Float) (basic columns : List ℕ) (entries errors : List Float) → length (spread_into s basic columns entries errors) ≡ length errors
 unfolding spread_into
-spread_same Nothing basic columns entries errors = refl
-spread_same (By distance) basic columns entries errors = after_errors_same distance basic columns entries (length columns) errors
+spread_same None basic columns entries errors = refl
+spread_same (Some distance) basic columns entries errors = after_errors_same distance basic columns entries (length columns) errors
 
 pub long_same : {count : ℕ} {l k : Lists} → Same l k → Long count l → Long count k
 long_same s long =

@@ -1,3 +1,3 @@
-pub mod Branches
 pub mod Lengths
+pub mod Slices
 pub mod Turns

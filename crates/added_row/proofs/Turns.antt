@@ -24,9 +24,9 @@ module _ {count : ℕ} (y : CDouble) {columns : List ℕ} {entries : List Float}
     pub terms_same : Same l c
     terms_same = subst (Same l) (sym turn.so_far) (after_terms_same y columns entries k l)
 
-    pub term_asks : k < length columns → TermFits (get_or columns k 0) c
-    term_asks less =
-        let w = row.within k less in
+    pub term_asks : {v : ℕ} → k < length columns → v ≡ get_or columns k 0 → TermFits v c
+    term_asks {v} less here =
+        let w : v < count = subst (λ (u : ℕ). u < count) (sym here) (row.within k less) in
         let s = terms_same in
         record {
           in_high = omega (arith, s.high_same, row.long.in_high);
@@ -36,15 +36,17 @@ module _ {count : ℕ} (y : CDouble) {columns : List ℕ} {entries : List Float}
           one_more =
               omega (
                 arith,
-                ap (λ (x : Lists). get_or x.terms (get_or columns k 0) 0) turn.so_far,
-                after_terms_few y columns entries k l (get_or columns k 0),
-                row.room (get_or columns k 0) w,
+                ap (λ (x : Lists). get_or x.terms v 0) turn.so_far,
+                after_terms_few y columns entries k l v,
+                row.room v w,
               );
         }
 
-    pub next_term : {d : Lists} → k < length columns → d ≡ with_term y (get_or columns k 0) (get_or entries k nan) c → Terms (k + 1) d
+    pub next_term : {d : Lists} {v : ℕ} {a : Float} → k < length columns → v ≡ get_or columns k 0 → a ≡ get_or entries k nan → d ≡ with_term y v a c → Terms (k + 1) d
     unfolding after_terms
-    next_term less e = next (with_term y (get_or columns k 0) (get_or entries k nan)) turn less refl e
+    next_term {a = a} less here at e =
+        next (with_term y (get_or columns k 0) (get_or entries k nan)) turn less refl
+        (e ∙ ap (λ (u : ℕ). with_term y u a c) here ∙ ap (λ (x : Float). with_term y (get_or columns k 0) x c) at)
 
 -- ---- a row's shares of an error
 module _ {count : ℕ} (distance : Float) {basic columns : List ℕ} {entries errors : List Float} (row : ErrorsFit count basic columns entries errors) where
@@ -59,11 +61,18 @@ module _ {count : ℕ} (distance : Float) {basic columns : List ℕ} {entries er
     pub errors_same : length e ≡ length errors
     errors_same = ap length turn.so_far ∙ after_errors_same distance basic columns entries k errors
 
-    pub error_asks : k < length columns → (get_or columns k 0 < length basic) × (get_or columns k 0 < length e)
-    error_asks less =
-        let w = row.within k less in
+    pub error_asks : {v : ℕ} → k < length columns → v ≡ get_or columns k 0 → (v < length basic) × (v < length e)
+    error_asks {v} less here =
+        let w : v < count = subst (λ (u : ℕ). u < count) (sym here) (row.within k less) in
         (omega (arith, row.in_basic), omega (arith, row.in_errors, errors_same))
 
-    pub next_error : {f : List Float} → k < length columns → f ≡ with_error distance basic (get_or columns k 0) (get_or entries k nan) e → Errors (k + 1) f
+    pub next_error : {f : List Float} {v : ℕ} {a : Float}
+        → k < length columns
+        → v ≡ get_or columns k 0
+        → a ≡ get_or entries k nan
+        → f ≡ with_error distance basic v a e
+        → Errors (k + 1) f
     unfolding after_errors
-    next_error less e = next (with_error distance basic (get_or columns k 0) (get_or entries k nan)) turn less refl e
+    next_error {a = a} less here at is =
+        next (with_error distance basic (get_or columns k 0) (get_or entries k nan)) turn less refl
+        (is ∙ ap (λ (u : ℕ). with_error distance basic u a e) here ∙ ap (λ (x : Float). with_error distance basic (get_or columns k 0) x e) at)

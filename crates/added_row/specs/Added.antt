@@ -1,6 +1,6 @@
 -- What one row adds to the certificate, by what becomes of its multiplier, entry by entry in stored order: document 01, "The certificate".
 -- Assumes nothing.
-use Rattle.std.specs.Prelude.{cond, List, ℕ, zero, suc, ◌+◌, length, get_or, set, Float}
+use Rattle.std.specs.Prelude.{cond, List, ℕ, zero, suc, ◌+◌, length, get_or, set, Option, Some, None, Float}
 use Rattle.std.specs.Float.{nan}
 use Rattle.std.specs.Float.Ieee.{eq}
 use Rattle.doubles.specs.Compare.{absolute}
@@ -9,8 +9,6 @@ use Rattle.cdouble.specs.Compensated.{◌⊕◌, ◌⊗◌, pair, plus_scaled, p
 use Rattle.questions.specs.Flags.{is_set}
 use Rattle.multipliers.specs.declared.weighing.Multiplier.{Multiplier}
 use Rattle.multipliers.specs.declared.weighing.Multiplier.TheVariants.{Zeroed, Dropped, Kept}
-use Rattle.multipliers.specs.declared.weighing.Spread.{Spread}
-use Rattle.multipliers.specs.declared.weighing.Spread.TheVariants.{Nothing, By}
 use Rattle.added_row.specs.declared.adding.Sums.{Sums}
 
 -- ---- per variable: its coefficient's two parts, the magnitude that was summed, and how many terms
@@ -60,9 +58,9 @@ after_errors distance basic columns entries (suc n) errors =
     with_error distance basic (get_or columns n 0) (get_or entries n nan) (after_errors distance basic columns entries n errors)
 
 -- a row, by what it spreads
-unfoldable pub spread_into : Spread → List ℕ → List ℕ → List Float → List Float → List Float
-spread_into Nothing basic columns entries errors = errors
-spread_into (By distance) basic columns entries errors = after_errors distance basic columns entries (length columns) errors
+unfoldable pub spread_into : Option Float → List ℕ → List ℕ → List Float → List Float → List Float
+spread_into None basic columns entries errors = errors
+spread_into (Some distance) basic columns entries errors = after_errors distance basic columns entries (length columns) errors
 
 -- ---- the sums over all rows
 abbrev pub sums : CDouble → Float → ℕ → ℕ → ℕ → Sums

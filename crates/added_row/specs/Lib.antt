@@ -1,2 +1,3 @@
 pub mod Added
+pub mod Lent
 pub mod Reads

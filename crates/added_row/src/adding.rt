@@ -5,7 +5,7 @@ ghost use Rattle.added_row.specs.Reads.{ErrorsFit};
 
 use cdouble::CDouble;
 use double_bits::abs;
-use multipliers::{Multiplier, Spread};
+use multipliers::Multiplier;
 
 /// The right side of the combined row, the magnitude and count of all terms so far, how many rows are combined, and how
 /// many multipliers that are not 0 were taken as zero.
@@ -24,7 +24,7 @@ fn add_error(distance: f64, basic: &[u8], v: usize, a: f64, errors: &mut [f64])
     ensures { errors.new ≡ with_error distance basic.now v a errors.old }
 {
     if basic[v] != 0 {
-        errors[v] = errors[v] + distance * abs(a);
+        errors[v] += distance * abs(a);
     }
 }
 
@@ -40,19 +40,16 @@ fn add_errors(
     requires { ErrorsFit count basic.now columns.now entries.now errors.old }
     ensures { errors.new ≡ after_errors distance basic.now columns.now entries.now (length columns.now) errors.old }
 {
-    let mut k = 0;
-    while k < columns.len() {
-        let v = columns[k];
-        let a = entries[k];
-        add_error(distance, basic, v, a, errors);
-        k += 1;
+    for (v, a) in columns.iter().zip(entries) {
+        add_error(distance, basic, *v, *a, errors);
     }
 }
 
 /// A row into the errors, if it carries any.
+#[tactic(auto, unfolding(crate::specs::Added::spread_into))]
 pub fn spread_row(
     count: usize,
-    spread: Spread,
+    spread: Option<f64>,
     basic: &[u8],
     columns: &[usize],
     entries: &[f64],
@@ -61,13 +58,13 @@ pub fn spread_row(
     requires { ErrorsFit count basic.now columns.now entries.now errors.old }
     ensures { errors.new ≡ spread_into spread basic.now columns.now entries.now errors.old }
 {
-    match spread {
-        Spread::Nothing => (),
-        Spread::By(distance) => add_errors(count, distance, basic, columns, entries, errors),
+    if let Some(distance) = spread {
+        add_errors(count, distance, basic, columns, entries, errors);
     }
 }
 
 /// A row of so many entries into the sums.
+#[tactic(auto, unfolding(crate::specs::Added::summed))]
 pub fn summed(m: Multiplier, right_side: f64, n: usize, c: Sums) -> Sums
     requires { (c.terms + 1 + n < 2 ^ 64) × (c.rows + 1 < 2 ^ 64) × (c.zeroed + 1 < 2 ^ 64) }
     ensures { result ≡ summed m right_side n c }
@@ -77,26 +74,19 @@ pub fn summed(m: Multiplier, right_side: f64, n: usize, c: Sums) -> Sums
             if y.value() == 0.0 {
                 c
             } else {
-                let beta = c.beta;
                 Sums {
-                    beta: beta,
-                    magnitude: c.magnitude,
-                    terms: c.terms,
-                    rows: c.rows,
                     zeroed: c.zeroed + 1,
+                    ..c
                 }
             }
         }
         Multiplier::Dropped => c,
-        Multiplier::Kept(y) => {
-            let beta = c.beta;
-            Sums {
-                beta: beta.add_scaled(y, right_side),
-                magnitude: c.magnitude + abs(y.value() * right_side),
-                terms: c.terms + 1 + n,
-                rows: c.rows + 1,
-                zeroed: c.zeroed,
-            }
-        }
+        Multiplier::Kept(y) => Sums {
+            beta: c.beta.add_scaled(y, right_side),
+            magnitude: c.magnitude + abs(y.value() * right_side),
+            terms: c.terms + 1 + n,
+            rows: c.rows + 1,
+            ..c
+        },
     }
 }

@@ -3,5 +3,7 @@
 #![tactic(auto)]
 
 mod adding;
+mod lent;
 
 pub use adding::{Sums, spread_row, summed};
+pub use lent::Lists;

@@ -1,87 +1,50 @@
--- The scan of the widened list, and the edges from the rooms of both sides. Assumes nothing.
+-- What is not in the widened list, and the edges from the rooms of both sides. Assumes nothing.
 use native.Mathlib.Omega.{arith}
-use native.Mathlib.Nat.{le_antisymm}
-use native.Mathlib.Numerals.{add-one}
 use mathlib.Core.Path.{◌≡◌, refl, ap, sym, ◌∙◌}
-use mathlib.Core.Logic.{inl, inr}
-use mathlib.Core.Bool.{Bool, true, false, cond, ◌&&◌, ◌||◌, beq, or-true, true≢false}
+use mathlib.Core.Bool.{Bool, true, false, cond}
 use mathlib.Core.List.{List}
-use Prim.Native.Nat.{ℕ, zero, suc, ◌+◌, ◌-◌, ◌<◌, ◌≤◌}
-use borrow.Author.Tests.{le-ltb, lt-ltb, eq-eqb, ne_eqb}
+use Prim.Native.Nat.{ℕ, zero, suc, ◌-◌, ◌<◌, ◌≤◌}
+use borrow.Author.Tests.{ne_eqb}
 use lib.Dec.{eqb}
 use lib.ListN.{length, get_or}
-use lib.Ieee.{Float, nan}
+use lib.Ieee.{Float}
 use lib.Ieee.Scale.{finite}
-use Rattle.exact.proofs.Naturals.{le_or_lt}
+use Rattle.std.proofs.lemmas.List.Folds.{list_any_at}
 use Rattle.cdouble.proofs.Contracts.{when_true, when_false}
 use Rattle.place_questions.specs.Places.{widened_among}
 use Rattle.tolerances.specs.Tolerances.{toward}
 use Rattle.tolerance_band.specs.BandEdge.{band_edge}
 use Rattle.variable_bounds.specs.Model.{Model, bound_of, tols_of}
-use Rattle.widening_rooms.specs.Reads.{Readable}
 use Rattle.variable_kinds.specs.Variables.{is_widened, holds_on_bounds}
 use Rattle.widening_rooms.specs.Rooms.{slack_room_at, widening_room}
 use Rattle.edges.specs.Edges.{edge}
 use Rattle.widening_rooms.proofs.Tests.{room_structural, room_slack}
-use Rattle.both_edges.specs.Mentioned.{mentioned_among}
-use Rattle.both_edges.specs.Reads.{RowInside}
+use Rattle.both_edges.specs.Mentioned.{mentioned}
 
--- ---- the scan: the first k items are others
-module _ (vars : List ℕ) (v : ℕ) where
-  pub record Others (k : ℕ) : Type 0 where
-    pub within : k ≤ length vars
-    pub so_far : mentioned_among vars k v ≡ false
+-- ---- what is not in the list is on neither side of it
+module _ (vars ups : List ℕ) (v : ℕ) (none : mentioned vars v ≡ false) where
+  other_at : (n : ℕ) → n < length vars → eqb (get_or vars n 0) v ≡ false
+  other_at n less = go (eqb (get_or vars n 0) v) refl
+    where
+      go : (b : Bool) → eqb (get_or vars n 0) v ≡ b → b ≡ false
+      go true here = sym (list_any_at (λ w. eqb w v) vars n 0 less here) ∙ none
+      go false here = refl
 
-  pub none_seen : Others 0
-  unfolding mentioned_among
-  none_seen = record { within = omega arith; so_far = refl }
-
-  met : (k n : ℕ) → k < n → get_or vars k 0 ≡ v → mentioned_among vars n v ≡ true
-  unfolding mentioned_among
-  met k zero less here = absurd (omega arith)
-  met k (suc n) less here =
-      elim (le_or_lt n k) [
-        | inl last ↦ let e : k ≡ n = omega arith in rw (sym e) (rw (eq-eqb (get_or vars k 0) v here) (or-true (mentioned_among vars k v)))
-        | inr before ↦ rw (met k n before here) refl
-      ]
-
-  module _ {k : ℕ} (turn : Others k) where
-    pub one_seen : k < length vars → (get_or vars k 0 ≡ v → ⊥) → Others (k + 1)
-    unfolding mentioned_among
-    one_seen less other = record { within = omega arith; so_far = rw (add-one k) (rw turn.so_far (ne_eqb (get_or vars k 0) v other)) }
-
-    pub is_seen : k < length vars → get_or vars k 0 ≡ v → true ≡ mentioned_among vars (length vars) v
-    is_seen less here = sym (met k (length vars) less here)
-
-    pub all_seen : length vars ≤ k → false ≡ mentioned_among vars (length vars) v
-    all_seen last = let e : k ≡ length vars = le_antisymm turn.within last in sym (ap (λ (n : ℕ). mentioned_among vars n v) (sym e) ∙ turn.so_far)
-
--- what is not in the list is on neither side of it
-not_widened : (vars ups : List ℕ) (n v : ℕ) (up : Bool) → mentioned_among vars n v ≡ false → widened_among vars ups n v up ≡ false
-unfolding mentioned_among widened_among
-not_widened vars ups zero v up e = refl
-not_widened vars ups (suc n) v up e = let w = neither (mentioned_among vars n v) (eqb (get_or vars n 0) v) e in rw (not_widened vars ups n v up w.0, w.1) refl
-  where
-    neither : (a b : Bool) → (a || b) ≡ false → (a ≡ false) × (b ≡ false)
-    neither false b e = (refl, e)
-    neither true b e = absurd (true≢false e)
+  not_widened : (n : ℕ) → n ≤ length vars → (up : Bool) → widened_among vars ups n v up ≡ false
+  unfolding widened_among
+  not_widened zero within up = refl
+  not_widened (suc n) within up = rw (not_widened n (omega arith) up, other_at n (omega arith)) refl
 
 -- ---- the rooms
-module _ (m : Model) (v : ℕ) {w : Bool} (is : w ≡ mentioned_among m.widened_variables (length m.widened_variables) v) (free : w ≡ false) where
+module _ (m : Model) (v : ℕ) {w : Bool} (is : w ≡ mentioned m.widened_variables v) (free : w ≡ false) where
   unwidened : (up : Bool) → false ≡ is_widened m.widened_variables m.widened_ups v up
-  unwidened up = sym (not_widened m.widened_variables m.widened_ups (length m.widened_variables) v up (sym is ∙ free))
+  unwidened up = sym (not_widened m.widened_variables m.widened_ups v (sym is ∙ free) (length m.widened_variables) (omega arith) up)
 
-  pub structural_rooms : v < m.structurals → (get_or m.low_tolerances v nan ≡ widening_room m v false) × (get_or m.high_tolerances v nan ≡ widening_room m v true)
-  unfolding toward
-  structural_rooms less = (room_structural m v false (unwidened false) refl less refl, room_structural m v true (unwidened true) refl less refl)
+  pub structural_room : (up : Bool) → v < m.structurals → toward (tols_of m v) up ≡ widening_room m v up
+  structural_room up less = room_structural m v up (unwidened up) refl less refl
 
-  pub slack_rooms : {r : Float} → m.structurals ≤ v → r ≡ slack_room_at m (v - m.structurals) → (r ≡ widening_room m v false) × (r ≡ widening_room m v true)
-  slack_rooms above e = (room_slack m v false (unwidened false) refl above e, room_slack m v true (unwidened true) refl above e)
-
-pub row_inside : (m : Model) (v : ℕ) → Readable m v → m.structurals ≤ v → RowInside m.structurals m.starts m.columns m.entries m.right_sides m.scales m.values (v - m.structurals)
-row_inside m v R above =
-    let r = R.row above in
-    record { in_starts = r.in_starts; rises = r.rises; inside = r.inside; in_right_sides = r.in_right_sides; in_scales = r.in_scales; entries_long = R.entries_long; values_long = R.values_long }
+  pub slack_room_is : (up : Bool) {r : Float} → m.structurals ≤ v → r ≡ slack_room_at m (v - m.structurals) → r ≡ widening_room m v up
+  slack_room_is up above e = room_slack m v up (unwidened up) refl above e
 
 -- ---- the edges
 module _ (m : Model) (leaving v : ℕ) (up : Bool) (other : v ≡ leaving → ⊥) {h : Bool} (held : h ≡ holds_on_bounds m.structurals m.integer m.mins m.maxs v) where

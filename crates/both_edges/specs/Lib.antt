@@ -1,2 +1,1 @@
 pub mod Mentioned
-pub mod Reads

@@ -23,6 +23,7 @@ pub struct CDouble {
     pub lo: f64,
 }
 
+// Kept: a port has the Rust's names, parameters and order of operations, so `add` and `neg` are no operators, and `rounded` takes `up`.
 impl CDouble {
     /// The factor of `split`, 2^27 + 1, which leaves its high half 26 digits of 53.
     pub const FACTOR: f64 = 134_217_729.0;

@@ -7,14 +7,14 @@ use lib.ListN.{length, get_or}
 use lib.Ieee.{Float}
 use Rattle.added_row.specs.declared.adding.Sums.{Sums}
 use Rattle.multipliers.specs.declared.weighing.Multiplier.{Multiplier}
-use Rattle.multipliers.specs.declared.weighing.Spread.{Spread}
+use Rattle.std.proofs.Common.{Option}
 use Rattle.multipliers.specs.Multipliers.{spreads}
 use Rattle.certificate.specs.System.{System, error_at, multiplier_at, right_side_at, row_columns, row_entries}
 use Rattle.added_row.specs.Added.{Lists, kept_into, spread_into, no_sums, summed}
 use Rattle.certificate.specs.Certificate.{Certificate, certificate, with_row, after_rows}
 use Rattle.added_row.specs.Reads.{RowFits, ErrorsFit}
 use Rattle.certificate.specs.Reads.{Counted, RowGoesOn, RowsGoOn}
-use Rattle.added_row.proofs.Lengths.{Same, same}
+use Rattle.added_row.proofs.Lengths.{Same}
 use Rattle.certificate.proofs.Lengths.{after_rows_same, lent_same, part-long, row_counted}
 use Rattle.exact.proofs.Turns.{Turn, first, next}
 
@@ -40,34 +40,30 @@ module _ {m : System} {r count : ℕ} {c : Certificate} (goes : RowGoesOn m r co
   errors_fit =
       record { same = entries_long; within = goes.readable.within; in_basic = goes.readable.in_basic; in_errors = goes.lent.in_errors }
 
-  pub sums_fit : {n : ℕ} → n ≡ get_or m.starts (r + 1) 0 - get_or m.starts r 0
-      → (c.sums_of.terms + 1 + n < 2 ^ 64) × (c.sums_of.rows + 1 < 2 ^ 64) × (c.sums_of.zeroed + 1 < 2 ^ 64)
-  sums_fit is = (
-    omega (arith, goes.counted.terms_few, goes.readable.rises, goes.readable.inside, goes.small),
+  pub sums_fit : (c.sums_of.terms + 1 + length (row_columns m r) < 2 ^ 64) × (c.sums_of.rows + 1 < 2 ^ 64) × (c.sums_of.zeroed + 1 < 2 ^ 64)
+  sums_fit = (
+    omega (arith, columns_long, goes.counted.terms_few, goes.readable.rises, goes.readable.inside, goes.small),
     omega (arith, goes.counted.rows_few, goes.small),
     omega (arith, goes.counted.zeroed_few, goes.small),
   )
 
-  pub row_added : {l : Lists} {e : List Float} {k : Multiplier} {error : Float} {s : Spread} {n : ℕ} {after : Sums}
+  pub row_added : {l : Lists} {e : List Float} {k : Multiplier} {error : Float} {s : Option Float} {after : Sums}
       → k ≡ multiplier_at m r
       → error ≡ error_at m r
       → s ≡ spreads m.estimated error k
       → l ≡ kept_into k (row_columns m r) (row_entries m r) c.lists_of
       → e ≡ spread_into s m.basic (row_columns m r) (row_entries m r) c.errors
-      → n ≡ get_or m.starts (r + 1) 0 - get_or m.starts r 0
-      → after ≡ summed k (right_side_at m r) n c.sums_of
+      → after ≡ summed k (right_side_at m r) (length (row_columns m r)) c.sums_of
       → certificate l e after ≡ with_row m r c
   unfolding with_row
-  row_added {l} {e} {k} {error} {s} {n} {after} is err spread kept spreading count_is sums =
+  row_added {l} {e} {k} {error} {s} {after} is err spread kept spreading sums =
       ap (λ (x : Lists). certificate x e after) (kept ∙ ap (λ (x : Multiplier). kept_into x (row_columns m r) (row_entries m r) c.lists_of) is)
       ∙ ap (λ (x : List Float). certificate into x after)
       (spreading
-      ∙ ap (λ (x : Spread). spread_into x m.basic (row_columns m r) (row_entries m r) c.errors)
+      ∙ ap (λ (x : Option Float). spread_into x m.basic (row_columns m r) (row_entries m r) c.errors)
       (spread ∙ ap (λ (x : Float). spreads m.estimated x k) err ∙ ap (spreads m.estimated (error_at m r)) is))
       ∙ ap (λ (x : Sums). certificate into (spread_into (spreads m.estimated (error_at m r) (multiplier_at m r)) m.basic (row_columns m r) (row_entries m r) c.errors) x)
-      (sums
-      ∙ ap (λ (x : Multiplier). summed x (right_side_at m r) n c.sums_of) is
-      ∙ ap (λ (x : ℕ). summed (multiplier_at m r) (right_side_at m r) x c.sums_of) (count_is ∙ sym columns_long))
+      (sums ∙ ap (λ (x : Multiplier). summed x (right_side_at m r) (length (row_columns m r)) c.sums_of) is)
     where
       into : Lists
       into = kept_into (multiplier_at m r) (row_columns m r) (row_entries m r) c.lists_of

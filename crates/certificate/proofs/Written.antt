@@ -1,11 +1,11 @@
 -- What is written for the variables does not depend on what was lent, and the places beyond them stay. Assumes nothing.
 use native.Mathlib.Omega.{arith}
-use mathlib.Core.Path.{◌≡◌, refl, ap, ◌∙◌}
+use mathlib.Core.Path.{◌≡◌, refl, ap, sym, subst, ◌∙◌}
 use mathlib.Core.Bool.{Bool, true, false, cond, ◌||◌}
-use mathlib.Core.List.{List, ◌∷◌, ◌++◌}
+use mathlib.Core.List.{List, ◌++◌}
 use Prim.Native.Nat.{ℕ, zero, suc, ◌+◌, ◌<◌, ◌≤◌}
-use lib.ListN.{length, get_or, set, drop, replicate, length-replicate, get_or-replicate, get_or-append}
-use lib.Seq.{drop-cons, set-append_left, set_at}
+use lib.ListN.{length, get_or, set, drop, replicate, length-replicate, length-append, length-drop, get_or-replicate, get_or-append}
+use lib.Seq.{set-append_left}
 use lib.Ieee.{Float, nan, eq}
 use Rattle.doubles.specs.Compare.{absolute}
 use Rattle.cdouble.specs.declared.CDouble.{CDouble}
@@ -14,16 +14,15 @@ use Rattle.questions.specs.Flags.{is_set}
 use Rattle.row_questions.specs.Rows.{slack_of}
 use Rattle.multipliers.specs.declared.weighing.Multiplier.{Multiplier}
 use Rattle.multipliers.specs.declared.weighing.Multiplier.TheVariants.{Zeroed, Dropped, Kept}
-use Rattle.multipliers.specs.declared.weighing.Spread.{Spread}
-use Rattle.multipliers.specs.declared.weighing.Spread.TheVariants.{Nothing, By}
+use Rattle.std.proofs.Common.{Option, Some, None}
 use Rattle.multipliers.specs.Multipliers.{needs_infinite_side, spreads, weighed}
 use Rattle.certificate.specs.System.{System, error_at, signed_at, multiplier_at, right_side_at, row_columns, row_entries}
 use Rattle.added_row.specs.Added.{Lists, lists, pair_at, with_term, after_terms, kept_into, with_error, after_errors, spread_into, no_sums, summed}
-use Rattle.certificate.specs.Certificate.{Certificate, certificate, with_row, after_rows, empty, combined, over, written, filled}
+use Rattle.certificate.specs.Certificate.{Certificate, certificate, with_row, after_rows, empty, combined, over, lists_over, written}
 use Rattle.added_row.specs.Reads.{Long, Within}
 use Rattle.certificate.specs.Reads.{RowsGoOn, CertificateFits}
 use Rattle.added_row.proofs.Lengths.{Same, after_terms_same, after_errors_same, long_same}
-use Rattle.certificate.proofs.Lengths.{filled_same, after_rows_same, lent_same}
+use Rattle.certificate.proofs.Lengths.{after_rows_same, lent_same}
 
 -- ---- lists with more places beyond
 abbrev pub beyond : Lists → Lists → Lists
@@ -74,10 +73,11 @@ module _ {count : ℕ} (columns : List ℕ) (entries : List Float) (within : Wit
       ap (with_error distance basic (get_or columns n 0) (get_or entries n nan)) (errors_beyond distance basic n (omega arith) e rest long)
       ∙ rw (get_or-append before rest nan (get_or columns n 0) less) (share_beyond (is_set (get_or basic (get_or columns n 0) 0)) before rest (get_or columns n 0) (get_or before (get_or columns n 0) nan ⊕ distance ⊗ absolute (get_or entries n nan)) less)
 
-  spread_beyond : (s : Spread) (basic : List ℕ) (e rest : List Float) → count ≤ length e → spread_into s basic columns entries (e ++ rest) ≡ spread_into s basic columns entries e ++ rest
+  spread_beyond : (s : Option Float) (basic : List ℕ) (e rest : List Float) → count ≤ length e
+      → spread_into s basic columns entries (e ++ rest) ≡ spread_into s basic columns entries e ++ rest
   unfolding spread_into
-  spread_beyond Nothing basic e rest long = refl
-  spread_beyond (By distance) basic e rest long = errors_beyond distance basic (length columns) (omega arith) e rest long
+  spread_beyond None basic e rest long = refl
+  spread_beyond (Some distance) basic e rest long = errors_beyond distance basic (length columns) (omega arith) e rest long
 
 -- ---- a certificate with more places beyond
 abbrev with_rest : Certificate → Lists → List Float → Certificate
@@ -104,30 +104,21 @@ module _ (m : System) {count : ℕ} where
       ∙ row_beyond n (within n (omega arith)) (after_rows m n c) rest more (long_same s.0 long) (omega (arith, s.1))
 
 -- ---- the lists made 0 first
-before_all : {A : Type 0} (n : ℕ) (x : A) (ys : List A) → replicate n x ++ x ∷ ys ≡ replicate (suc n) x ++ ys
-before_all zero x ys = refl
-before_all {A} (suc n) x ys = ap (λ (r : List A). x ∷ r) (before_all n x ys)
-
-filled-over : {A : Type 0} (n : ℕ) (x : A) (xs : List A) → n ≤ length xs → filled n x xs ≡ over n (replicate n x) xs
-unfolding filled
-filled-over zero x xs fits = refl
-filled-over {A} (suc n) x xs fits =
-    ap (λ (r : List A). set r n x) (filled-over n x xs (omega arith) ∙ ap (λ (r : List A). replicate n x ++ r) (drop-cons xs n x (omega arith)))
-    ∙ set_at (replicate n x) (get_or xs n x) (drop (suc n) xs) x n (length-replicate n x)
-    ∙ before_all n x (drop (suc n) xs)
+over-long : {A : Type 0} (count : ℕ) (x : A) (xs : List A) → count ≤ length xs → length (over count (replicate count x) xs) ≡ length xs
+over-long count x xs fits = simp (length-append, length-replicate, length-drop) (omega arith)
 
 -- ---- the errors stand apart from the rest, and stay where there are no error bounds
-nothing_either_way : (error : Float) (b : Bool) (y : CDouble) → spreads false error (cond b Dropped (Kept y)) ≡ Nothing
+nothing_either_way : (error : Float) (b : Bool) (y : CDouble) → spreads false error (cond b Dropped (Kept y)) ≡ None
 unfolding spreads
 nothing_either_way error true y = refl
 nothing_either_way error false y = refl
 
-nothing_spread : (error : Float) (y : CDouble) (min max : Float) → spreads false error (weighed false error y min max) ≡ Nothing
+nothing_spread : (error : Float) (y : CDouble) (min max : Float) → spreads false error (weighed false error y min max) ≡ None
 unfolding weighed
 nothing_spread error y min max = nothing_either_way error (eq (value y) plus_zero || needs_infinite_side (value y) min max) y
 
 module _ (m : System) where
-  no_spread : (r : ℕ) → m.estimated ≡ false → spreads m.estimated (error_at m r) (multiplier_at m r) ≡ Nothing
+  no_spread : (r : ℕ) → m.estimated ≡ false → spreads m.estimated (error_at m r) (multiplier_at m r) ≡ None
   no_spread r e =
       let min = get_or m.mins (slack_of m.structurals r) nan in
       let max = get_or m.maxs (slack_of m.structurals r) nan in
@@ -137,7 +128,7 @@ module _ (m : System) where
   unfolding after_rows with_row spread_into
   errors_stay zero c e = refl
   errors_stay (suc n) c e =
-      ap (λ (s : Spread). spread_into s m.basic (row_columns m n) (row_entries m n) (after_rows m n c).errors) (no_spread n e) ∙ errors_stay n c e
+      ap (λ (s : Option Float). spread_into s m.basic (row_columns m n) (row_entries m n) (after_rows m n c).errors) (no_spread n e) ∙ errors_stay n c e
 
   rows_alone : (n : ℕ) (l : Lists) (e f : List Float)
       → ((after_rows m n (certificate l e no_sums)).lists_of ≡ (after_rows m n (certificate l f no_sums)).lists_of) × ((after_rows m n (certificate l e no_sums)).sums_of ≡ (after_rows m n (certificate l f no_sums)).sums_of)
@@ -150,43 +141,37 @@ module _ (m : System) where
       )
 
 -- ---- `certificate`, from what clearing gave
-module _ {m : System} {rows count : ℕ} {l : Lists} {errors : List Float} (fits : CertificateFits m rows count l errors) {h w g e : List Float} {t : List ℕ}
-    (high : h ≡ filled count plus_zero l.high) (low : w ≡ filled count plus_zero l.low) (magnitudes : g ≡ filled count plus_zero l.magnitudes) (terms : t ≡ filled count 0 l.terms)
-    (clears : e ≡ cond m.estimated (filled count plus_zero errors) errors) where
+module _ {m : System} {rows count : ℕ} {l : Lists} {errors : List Float} (fits : CertificateFits m rows count l errors) {k : Lists} {e : List Float}
+    (cleared : k ≡ lists_over count (empty count).lists_of l) (clears : e ≡ cond m.estimated (over count (replicate count plus_zero) errors) errors) where
   errors_same : length e ≡ length errors
   errors_same = ap length clears ∙ either m.estimated
     where
-      either : (b : Bool) → length (cond b (filled count plus_zero errors) errors) ≡ length errors
-      either true = filled_same count plus_zero errors
+      either : (b : Bool) → length (cond b (over count (replicate count plus_zero) errors) errors) ≡ length errors
+      either true = over-long count plus_zero errors fits.lent.in_errors
       either false = refl
 
-  cleared_same : Same l (lists h w g t)
+  cleared_same : Same l k
   cleared_same =
-      record {
-        high_same = ap length high ∙ filled_same count plus_zero l.high;
-        low_same = ap length low ∙ filled_same count plus_zero l.low;
-        magnitudes_same = ap length magnitudes ∙ filled_same count plus_zero l.magnitudes;
-        terms_same = ap length terms ∙ filled_same count 0 l.terms;
-      }
+      let long = fits.lent.long in
+      subst (Same l) (sym cleared)
+      (record {
+        high_same = over-long count plus_zero l.high long.in_high;
+        low_same = over-long count plus_zero l.low long.in_low;
+        magnitudes_same = over-long count plus_zero l.magnitudes long.in_magnitudes;
+        terms_same = over-long count 0 l.terms long.in_terms;
+      })
 
-  none_yet : (v : ℕ) → v < count → get_or t v 0 ≡ 0
+  none_yet : (v : ℕ) → v < count → get_or k.terms v 0 ≡ 0
   none_yet v less =
-      ap (λ (x : List ℕ). get_or x v 0) (terms ∙ filled-over count 0 l.terms fits.lent.long.in_terms)
+      ap (λ (x : Lists). get_or x.terms v 0) cleared
       ∙ get_or-append (replicate count 0) (drop count l.terms) 0 v (omega (arith, length-replicate {A = ℕ} count 0))
       ∙ get_or-replicate count v 0 0 less
 
-  pub certificate_goes_on : RowsGoOn m rows count (lists h w g t) e
+  pub certificate_goes_on : RowsGoOn m rows count k e
   certificate_goes_on = record { readable = fits.readable; lent = lent_same cleared_same errors_same fits.lent; none = none_yet; small = fits.small }
 
   abbrev rest : Lists
   rest = lists (drop count l.high) (drop count l.low) (drop count l.magnitudes) (drop count l.terms)
-
-  cleared_is : lists h w g t ≡ beyond (empty count).lists_of rest
-  cleared_is =
-      ap (λ (x : List Float). lists x w g t) (high ∙ filled-over count plus_zero l.high fits.lent.long.in_high)
-      ∙ ap (λ (x : List Float). lists (over count (replicate count plus_zero) l.high) x g t) (low ∙ filled-over count plus_zero l.low fits.lent.long.in_low)
-      ∙ ap (λ (x : List Float). lists (over count (replicate count plus_zero) l.high) (over count (replicate count plus_zero) l.low) x t) (magnitudes ∙ filled-over count plus_zero l.magnitudes fits.lent.long.in_magnitudes)
-      ∙ ap (λ (x : List ℕ). lists (over count (replicate count plus_zero) l.high) (over count (replicate count plus_zero) l.low) (over count (replicate count plus_zero) l.magnitudes) x) (terms ∙ filled-over count 0 l.terms fits.lent.long.in_terms)
 
   empty-long : Long count (empty count).lists_of
   empty-long =
@@ -198,26 +183,26 @@ module _ {m : System} {rows count : ℕ} {l : Lists} {errors : List Float} (fits
       }
 
   -- the same rows after the empty certificate, with the lent places beyond
-  all_rows : after_rows m rows (certificate (lists h w g t) (over count (replicate count plus_zero) errors) no_sums) ≡ with_rest (combined m rows count) rest (drop count errors)
+  all_rows : after_rows m rows (certificate k (over count (replicate count plus_zero) errors) no_sums) ≡ with_rest (combined m rows count) rest (drop count errors)
   unfolding combined
   all_rows =
-      ap (λ (x : Lists). after_rows m rows (certificate x (over count (replicate count plus_zero) errors) no_sums)) cleared_is
+      ap (λ (x : Lists). after_rows m rows (certificate x (over count (replicate count plus_zero) errors) no_sums)) cleared
       ∙ rows_beyond m rows (λ r less. (fits.readable r less).within) (empty count) rest (drop count errors) empty-long (omega (arith, length-replicate count plus_zero))
 
-  errors_are : (after_rows m rows (certificate (lists h w g t) e no_sums)).errors ≡ cond m.estimated (over count (combined m rows count).errors errors) errors
+  errors_are : (after_rows m rows (certificate k e no_sums)).errors ≡ cond m.estimated (over count (combined m rows count).errors errors) errors
   errors_are = by m.estimated refl
     where
-      by : (b : Bool) → m.estimated ≡ b → (after_rows m rows (certificate (lists h w g t) e no_sums)).errors ≡ cond b (over count (combined m rows count).errors errors) errors
+      by : (b : Bool) → m.estimated ≡ b → (after_rows m rows (certificate k e no_sums)).errors ≡ cond b (over count (combined m rows count).errors errors) errors
       by true is =
-          ap (λ (x : List Float). (after_rows m rows (certificate (lists h w g t) x no_sums)).errors)
-          (clears ∙ ap (λ (b : Bool). cond b (filled count plus_zero errors) errors) is ∙ filled-over count plus_zero errors fits.lent.in_errors)
+          ap (λ (x : List Float). (after_rows m rows (certificate k x no_sums)).errors)
+          (clears ∙ ap (λ (b : Bool). cond b (over count (replicate count plus_zero) errors) errors) is)
           ∙ ap (λ (c : Certificate). c.errors) all_rows
-      by false is = errors_stay m rows (certificate (lists h w g t) e no_sums) is ∙ clears ∙ ap (λ (b : Bool). cond b (filled count plus_zero errors) errors) is
+      by false is = errors_stay m rows (certificate k e no_sums) is ∙ clears ∙ ap (λ (b : Bool). cond b (over count (replicate count plus_zero) errors) errors) is
 
-  pub certificate_is : {c : Certificate} → c ≡ after_rows m rows (certificate (lists h w g t) e no_sums) → c ≡ written m.estimated count (combined m rows count) l errors
+  pub certificate_is : {c : Certificate} → c ≡ after_rows m rows (certificate k e no_sums) → c ≡ written m.estimated count (combined m rows count) l errors
   unfolding written
   certificate_is f =
-      let a = rows_alone m rows (lists h w g t) e (over count (replicate count plus_zero) errors) in
+      let a = rows_alone m rows k e (over count (replicate count plus_zero) errors) in
       f
-      ∙ ap (λ (x : List Float). certificate (after_rows m rows (certificate (lists h w g t) e no_sums)).lists_of x (after_rows m rows (certificate (lists h w g t) e no_sums)).sums_of) errors_are
+      ∙ ap (λ (x : List Float). certificate (after_rows m rows (certificate k e no_sums)).lists_of x (after_rows m rows (certificate k e no_sums)).sums_of) errors_are
       ∙ rw (a.0 ∙ ap (λ (c : Certificate). c.lists_of) all_rows, a.1 ∙ ap (λ (c : Certificate). c.sums_of) all_rows) refl

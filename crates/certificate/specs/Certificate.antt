@@ -1,6 +1,6 @@
 -- The certificate, as a fold over the rows in ascending order and over each row's entries in stored order: document 01, "The certificate".
 -- Assumes nothing.
-use Rattle.std.specs.Prelude.{Bool, cond, List, ◌++◌, ℕ, zero, suc, length, set, replicate, drop, Float}
+use Rattle.std.specs.Prelude.{Bool, cond, List, ◌++◌, ℕ, zero, suc, length, replicate, drop, Float}
 use Rattle.cdouble.specs.Compensated.{plus_zero}
 use Rattle.added_row.specs.declared.adding.Sums.{Sums}
 use Rattle.multipliers.specs.Multipliers.{spreads}
@@ -43,15 +43,15 @@ combined m rows count = after_rows m rows (empty count)
 abbrev pub over : {A : Type 0} → ℕ → List A → List A → List A
 over count xs lent = xs ++ drop count lent
 
+-- all four
+abbrev pub lists_over : ℕ → Lists → Lists → Lists
+lists_over count l lent =
+    lists (over count l.high lent.high) (over count l.low lent.low) (over count l.magnitudes lent.magnitudes) (over count l.terms lent.terms)
+
 -- "A verdict writes coefficients, magnitudes, term counts and, if present, errors for every variable; places beyond stay, and without error
 -- bounds the errors slice stays"
 unfoldable pub written : Bool → ℕ → Certificate → Lists → List Float → Certificate
 written estimated count c l e =
     certificate
-    (lists (over count c.lists_of.high l.high) (over count c.lists_of.low l.low) (over count c.lists_of.magnitudes l.magnitudes) (over count c.lists_of.terms l.terms))
+    (lists_over count c.lists_of l)
     (cond estimated (over count c.errors e) e) c.sums_of
-
--- the first n places made x, one after another
-unfoldable pub filled : {A : Type 0} → ℕ → A → List A → List A
-filled zero x xs = xs
-filled (suc n) x xs = set (filled n x xs) n x

@@ -5,6 +5,7 @@ use Rattle.doubles.specs.Compare.{absolute}
 use Rattle.cdouble.specs.declared.CDouble.{CDouble}
 use Rattle.questions.specs.Flags.{is_set}
 use Rattle.row_questions.specs.Rows.{part, slack_of}
+use Rattle.sheet.specs.declared.lent.Sheet.{Sheet as Slices}
 use Rattle.sheet.specs.Sheet.{Sheet}
 use Rattle.multipliers.specs.declared.weighing.Multiplier.{Multiplier}
 use Rattle.refinement_error.specs.Refinement.{error_bounds, rho_at}
@@ -44,6 +45,12 @@ system structurals estimated leaving_up starts columns entries right_sides mins 
       rho_lo = rho_lo;
       second = second;
     }
+
+-- that of the lent slices
+abbrev pub lent_system : Slices → Bool → System
+lent_system s estimated =
+    system s.structurals estimated (is_set s.leaving_up) s.starts.now s.columns.now s.entries.now s.right_sides.now s.mins.now s.maxs.now
+    s.basic.now s.rho_hi.now s.rho_lo.now s.second.now
 
 -- that of a sheet
 abbrev pub system_of : Sheet → System

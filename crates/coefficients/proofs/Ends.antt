@@ -14,7 +14,7 @@ use Rattle.doubles.specs.Directed.{sum_up, sum_down, product_up, product_down}
 use Rattle.cdouble.specs.declared.CDouble.{CDouble}
 use Rattle.multipliers.specs.declared.weighing.Multiplier.{Multiplier}
 use Rattle.multipliers.specs.declared.weighing.Multiplier.TheVariants.{Zeroed, Dropped, Kept}
-use Rattle.gaps.specs.Steps.{Operation, add_scaled, after_entries, with_row, with_right_side}
+use Rattle.gaps.specs.Steps.{Operation, add_scaled, after_entries, with_row}
 use Rattle.coefficients.specs.Ends.{added, Holds, Ends}
 use Rattle.coefficients.specs.Reads.{EntriesFit}
 use Rattle.exact.proofs.Turns.{UpTo, begin, advance}
@@ -69,20 +69,22 @@ module _ {count : ℕ} (y : CDouble) {columns : List ℕ} {entries lower upper :
   first_entry = begin (record { low = unchanged count lower; high = unchanged count upper })
 
   module _ {k : ℕ} {l u : List Float} (turn : UpTo (Entered l u) (length columns) k) where
-    pub entry_asks : k < length columns → (get_or columns k 0 < length l) × (get_or columns k 0 < length u)
-    entry_asks less =
-        let w = fits.within k less in
+    pub entry_asks : {v : ℕ} → k < length columns → v ≡ get_or columns k 0 → (v < length l) × (v < length u)
+    entry_asks {v} less here =
+        let w : v < count = subst (λ (x : ℕ). x < count) (sym here) (fits.within k less) in
         (omega (arith, turn.so_far.low.same, fits.long.in_lower), omega (arith, turn.so_far.high.same, fits.long.in_upper))
 
-    pub next_entry : {l' u' : List Float}
+    pub next_entry : {l' u' : List Float} {v : ℕ} {a : Float}
         → k < length columns
-        → (l' ≡ added sum_down product_down y (get_or columns k 0) (get_or entries k nan) l) × (u' ≡ added sum_up product_up y (get_or columns k 0) (get_or entries k nan) u)
+        → v ≡ get_or columns k 0
+        → a ≡ get_or entries k nan
+        → (l' ≡ added sum_down product_down y v a l) × (u' ≡ added sum_up product_up y v a u)
         → UpTo (Entered l' u') (length columns) (k + 1)
-    next_entry less is =
+    next_entry less here at is =
         advance less
         (record {
-          low = side_entered sum_down product_down y columns entries k turn.so_far.low fits.long.in_lower (fits.within k less) is.0;
-          high = side_entered sum_up product_up y columns entries k turn.so_far.high fits.long.in_upper (fits.within k less) is.1;
+          low = side_entered sum_down product_down y columns entries k turn.so_far.low fits.long.in_lower (fits.within k less) (rw (here, at) at is.0);
+          high = side_entered sum_up product_up y columns entries k turn.so_far.high fits.long.in_upper (fits.within k less) (rw (here, at) at is.1);
         })
 
 -- ---- a row by its place in the set
@@ -90,28 +92,12 @@ module _ (count : ℕ) (columns : List ℕ) (entries lower upper : List Float) w
   abbrev ByRow : Multiplier → List Float → List Float → Type 0
   ByRow k l u = Ends count (λ sum product. with_row sum product k columns entries) lower upper l u
 
-  pub row_zeroed : {m : Multiplier} {y : CDouble} → m ≡ Zeroed y → ByRow m lower upper
+  pub row_left : (m : Multiplier) → ((y : CDouble) → m ≡ Kept y → ⊥) → ByRow m lower upper
   unfolding with_row
-  row_zeroed is = subst (λ (k : Multiplier). ByRow k lower upper) (sym is) (record { low = unchanged count lower; high = unchanged count upper })
-
-  pub row_dropped : {m : Multiplier} → m ≡ Dropped → ByRow m lower upper
-  unfolding with_row
-  row_dropped is = subst (λ (k : Multiplier). ByRow k lower upper) (sym is) (record { low = unchanged count lower; high = unchanged count upper })
+  row_left (Zeroed y) other = record { low = unchanged count lower; high = unchanged count upper }
+  row_left Dropped other = record { low = unchanged count lower; high = unchanged count upper }
+  row_left (Kept y) other = absurd (other y refl)
 
   pub row_kept : {m : Multiplier} {y : CDouble} {l u : List Float} → m ≡ Kept y → Ends count (λ sum product v. after_entries sum product y columns entries v (length columns)) lower upper l u → ByRow m l u
   unfolding with_row
   row_kept {l = l} {u = u} is ends = subst (λ (k : Multiplier). ByRow k l u) (sym is) ends
-
--- ---- its right side
-module _ (b sum : Float) {m : Multiplier} where
-  pub side_zeroed : {y : CDouble} → m ≡ Zeroed y → sum ≡ with_right_side m b sum
-  unfolding with_right_side
-  side_zeroed is = ap (λ (k : Multiplier). with_right_side k b sum) (sym is)
-
-  pub side_dropped : m ≡ Dropped → sum ≡ with_right_side m b sum
-  unfolding with_right_side
-  side_dropped is = ap (λ (k : Multiplier). with_right_side k b sum) (sym is)
-
-  pub side_kept : {y : CDouble} {r : Float} → m ≡ Kept y → r ≡ add_scaled sum_down product_down y b sum → r ≡ with_right_side m b sum
-  unfolding with_right_side
-  side_kept is e = e ∙ ap (λ (k : Multiplier). with_right_side k b sum) (sym is)

@@ -2,8 +2,8 @@
 use native.Mathlib.Omega.{arith}
 use mathlib.Core.Path.{◌≡◌, refl, ap, sym, subst, ◌∙◌}
 use mathlib.Core.List.{List}
-use Prim.Native.Nat.{ℕ, zero, suc, ◌+◌, ◌-◌, ◌<◌, ◌≤◌}
-use lib.ListN.{length, get_or}
+use Prim.Native.Nat.{ℕ, suc, ◌+◌, ◌<◌}
+use lib.ListN.{get_or}
 use lib.Ieee.{Float, nan}
 use Rattle.doubles.specs.Directed.{sum_up, sum_down, product_up, product_down}
 use Rattle.cdouble.specs.Compensated.{plus_zero}

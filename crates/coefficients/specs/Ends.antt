@@ -6,7 +6,7 @@ use Rattle.cdouble.specs.declared.CDouble.{CDouble}
 use Rattle.cdouble.specs.Compensated.{plus_zero}
 use Rattle.certificate.specs.Certificate.{over}
 use Rattle.certificate.specs.System.{System, multiplier_at, right_side_at, row_columns, row_entries}
-use Rattle.gaps.specs.Rows.{Rows, KeptRows, rows_in}
+use Rattle.gaps.specs.Rows.{rows_in}
 use Rattle.gaps.specs.Steps.{Operation, add_scaled, with_row, coefficient_after, with_right_side, right_side}
 
 -- one entry more of a kept row, a of the variable v

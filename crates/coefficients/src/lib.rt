@@ -3,17 +3,18 @@
 
 #![tactic(auto)]
 
-ghost use Rattle.std.specs.Prelude.{◌≡◌, [], ◌<◌, length};
+ghost use Rattle.std.specs.Prelude.{◌≡◌, ◌<◌, length};
 ghost use Rattle.doubles.specs.Directed.{product_down, product_up, sum_down, sum_up};
-ghost use Rattle.certificate.specs.System.{multiplier_at, system};
+ghost use Rattle.certificate.specs.System.{lent_system, multiplier_at};
 ghost use Rattle.gaps.specs.Rows.{rows_in};
 ghost use Rattle.gaps.specs.Steps.{after_entries, right_side, with_right_side, with_row};
 ghost use Rattle.coefficients.specs.Ends.{Ends, RowAdded, added, ends_over};
 ghost use Rattle.coefficients.specs.Reads.{EntriesFit, RowFits, RowsFit};
 
 use cdouble::CDouble;
-use directed::{product_bounds, sum_down, with_scaled};
+use directed::{product_bounds, rounded_sum, with_scaled};
 use multipliers::{Multiplier, multiplier_at};
+use sheet::Sheet;
 
 /// One entry of a kept row, `a` of the variable `v`.
 fn add_term(y: CDouble, v: usize, a: f64, lower: &mut [f64], upper: &mut [f64])
@@ -26,6 +27,7 @@ fn add_term(y: CDouble, v: usize, a: f64, lower: &mut [f64], upper: &mut [f64])
 }
 
 /// A kept row, entry by entry.
+// Kept: the loop of kept_terms::add_terms again: what is done with an entry differs, and a trait of the step with its law is longer than both loops.
 fn add_terms(
     count: usize,
     y: CDouble,
@@ -37,12 +39,8 @@ fn add_terms(
     requires { EntriesFit count columns.now entries.now lower.old upper.old }
     ensures { Ends count (λ sum product v. after_entries sum product y columns.now entries.now v (length columns.now)) lower.old upper.old lower.new upper.new }
 {
-    let mut k = 0;
-    while k < columns.len() {
-        let v = columns[k];
-        let a = entries[k];
-        add_term(y, v, a, lower, upper);
-        k += 1;
+    for (v, a) in columns.iter().zip(entries) {
+        add_term(y, *v, *a, lower, upper);
     }
 }
 
@@ -58,123 +56,68 @@ fn keep_row(
     requires { EntriesFit count columns.now entries.now lower.old upper.old }
     ensures { Ends count (λ sum product. with_row sum product m columns.now entries.now) lower.old upper.old lower.new upper.new }
 {
-    match m {
-        Multiplier::Zeroed(y) => (),
-        Multiplier::Dropped => (),
-        Multiplier::Kept(y) => add_terms(count, y, columns, entries, lower, upper),
+    if let Multiplier::Kept(y) = m {
+        add_terms(count, y, columns, entries, lower, upper);
     }
 }
 
 /// A row with the right side `b`, into the right side so far.
+#[tactic(auto, unfolding(gaps::specs::Steps::with_right_side))]
 fn with_right_side(m: Multiplier, b: f64, sum: f64) -> f64
     ensures { result ≡ with_right_side m b sum }
 {
-    match m {
-        Multiplier::Zeroed(y) => sum,
-        Multiplier::Dropped => sum,
-        Multiplier::Kept(y) => {
-            let high = product_bounds(y.hi, b);
-            let low = product_bounds(y.lo, b);
-            sum_down(sum_down(sum, high.down), low.down)
-        }
+    if let Multiplier::Kept(y) = m {
+        let high = product_bounds(y.hi, b);
+        let low = product_bounds(y.lo, b);
+        rounded_sum::<false>(rounded_sum::<false>(sum, high.down), low.down)
+    } else {
+        sum
     }
 }
 
 /// The row `r` into the coefficients, and into the right side `sum`.
 fn add_row(
-    structurals: usize,
+    s: &Sheet,
     count: usize,
     estimated: bool,
-    leaving_up: bool,
     lower: &mut [f64],
     upper: &mut [f64],
-    starts: &[usize],
-    columns: &[usize],
-    entries: &[f64],
-    right_sides: &[f64],
-    mins: &[f64],
-    maxs: &[f64],
-    rho_hi: &[f64],
-    rho_lo: &[f64],
-    second: &[f64],
     r: usize,
     sum: f64,
 ) -> f64
-    requires { RowFits (system structurals estimated leaving_up starts.now columns.now entries.now right_sides.now mins.now maxs.now [] rho_hi.now rho_lo.now second.now) r count lower.old upper.old }
-    ensures { RowAdded (system structurals estimated leaving_up starts.now columns.now entries.now right_sides.now mins.now maxs.now [] rho_hi.now rho_lo.now second.now) r count lower.old upper.old lower.new upper.new sum result }
+    requires { RowFits (lent_system s.now estimated) r count lower.old upper.old }
+    ensures { RowAdded (lent_system s.now estimated) r count lower.old upper.old lower.new upper.new sum result }
 {
-    let m = multiplier_at(
-        structurals,
-        estimated,
-        leaving_up,
-        mins,
-        maxs,
-        rho_hi,
-        rho_lo,
-        second,
-        r,
-    );
-    let b = right_sides[r];
-    let start = starts[r];
-    let end = starts[r + 1];
+    let m = multiplier_at(s, estimated, r);
+    let start = s.starts[r];
+    let end = s.starts[r + 1];
     keep_row(
         count,
         m,
-        &columns[start..end],
-        &entries[start..end],
+        &s.columns[start..end],
+        &s.entries[start..end],
         lower,
         upper,
     );
-    with_right_side(m, b, sum)
+    with_right_side(m, s.right_sides[r], sum)
 }
 
 /// The rows in ascending order into the coefficients, and their right side.
 pub fn add_rows(
-    rows: usize,
-    structurals: usize,
+    s: &Sheet,
     count: usize,
     estimated: bool,
-    leaving_up: bool,
     lower: &mut [f64],
     upper: &mut [f64],
-    starts: &[usize],
-    columns: &[usize],
-    entries: &[f64],
-    right_sides: &[f64],
-    mins: &[f64],
-    maxs: &[f64],
-    rho_hi: &[f64],
-    rho_lo: &[f64],
-    second: &[f64],
 ) -> f64
-    requires { RowsFit (system structurals estimated leaving_up starts.now columns.now entries.now right_sides.now mins.now maxs.now [] rho_hi.now rho_lo.now second.now) rows count lower.old upper.old }
-    ensures value { result ≡ right_side (multiplier_at (system structurals estimated leaving_up starts.now columns.now entries.now right_sides.now mins.now maxs.now [] rho_hi.now rho_lo.now second.now)) (rows_in (system structurals estimated leaving_up starts.now columns.now entries.now right_sides.now mins.now maxs.now [] rho_hi.now rho_lo.now second.now) rows count) rows }
-    ensures lower_after { lower.new ≡ ends_over sum_down product_down (system structurals estimated leaving_up starts.now columns.now entries.now right_sides.now mins.now maxs.now [] rho_hi.now rho_lo.now second.now) rows count lower.old }
-    ensures upper_after { upper.new ≡ ends_over sum_up product_up (system structurals estimated leaving_up starts.now columns.now entries.now right_sides.now mins.now maxs.now [] rho_hi.now rho_lo.now second.now) rows count upper.old }
+    requires { RowsFit (lent_system s.now estimated) s.now.rows count lower.old upper.old }
+    ensures value { result ≡ right_side (multiplier_at (lent_system s.now estimated)) (rows_in (lent_system s.now estimated) s.now.rows count) s.now.rows }
+    ensures lower_after { lower.new ≡ ends_over sum_down product_down (lent_system s.now estimated) s.now.rows count lower.old }
+    ensures upper_after { upper.new ≡ ends_over sum_up product_up (lent_system s.now estimated) s.now.rows count upper.old }
 {
     let mut sum = 0.0;
-    let mut r = 0;
-    while r < rows {
-        sum = add_row(
-            structurals,
-            count,
-            estimated,
-            leaving_up,
-            lower,
-            upper,
-            starts,
-            columns,
-            entries,
-            right_sides,
-            mins,
-            maxs,
-            rho_hi,
-            rho_lo,
-            second,
-            r,
-            sum,
-        );
-        r += 1;
+    for r in 0..s.rows {
+        sum = add_row(s, count, estimated, lower, upper, r, sum);
     }
     sum
 }

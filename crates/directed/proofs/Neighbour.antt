@@ -1,7 +1,7 @@
 -- The neighbours of a double of at least two units are one bit pattern away, and neither is 0. Assumes nothing.
 use mathlib.Core.Path.{◌≡◌, refl, sym, ap, ◌∙◌, subst}
 use mathlib.Core.Logic.{inl, inr}
-use mathlib.Core.Bool.{Bool, true, false, not, cond}
+use mathlib.Core.Bool.{Bool, true, false, not, cond, beq}
 use Prim.Native.Nat.{ℕ, ◌+◌, ◌-◌, ◌%◌, ◌^◌, ◌≤◌, ◌<◌}
 use native.Mathlib.Nat.{le_of_lt}
 use native.Mathlib.Omega.{arith}
@@ -24,25 +24,6 @@ use Rattle.doubles.proofs.Zero.{with_zero_rank}
 use Rattle.doubles.proofs.Next.{next_mirror}
 use Rattle.doubles.proofs.Steps.{Number, up_positive, up_negative}
 use Rattle.directed.specs.Far.{Clear, NotMinusZero}
-
--- ---- a number moved by 1 or not, as the code has it
-pub plus_one_if : (step : Bool) (b : ℕ) {n : ℕ} → n ≡ cond step 1 0 → b + n ≡ cond step (b + 1) b
-plus_one_if true b e = omega arith
-plus_one_if false b e = omega arith
-
-pub no_more_than : (step : Bool) (b : ℕ) {n : ℕ} → n ≡ cond step 1 0 → (T step → 0 < b) → n ≤ b
-no_more_than true b e h = let k = h tt in omega arith
-no_more_than false b e h = omega arith
-
-pub less_one_if : (step : Bool) (b : ℕ) {n : ℕ} → n ≡ cond step 1 0 → b - n ≡ cond step (b - 1) b
-less_one_if true b e = omega arith
-less_one_if false b e = omega arith
-
-pub low_pattern : (step : Bool) (b x y : ℕ) {t : Bool} → t ≡ true → cond step x b ≡ cond step (cond t x y) b
-low_pattern step b x y e = ap (λ (t : Bool). cond step (cond t x y) b) (sym e)
-
-pub high_pattern : (step : Bool) (b x y : ℕ) {t : Bool} → t ≡ false → cond step y b ≡ cond step (cond t x y) b
-high_pattern step b x y e = ap (λ (t : Bool). cond step (cond t x y) b) (sym e)
 
 -- ---- a double and its negative
 magnitude-neg : (x : Float) → magnitude (neg x) ≡ magnitude x
@@ -80,6 +61,13 @@ rank_above x h f l =
 -- ---- the neighbours by sign and rank
 abbrev further : Bool → ℕ → ℕ
 further s p = cond s (p - 1) (p + 1)
+
+-- whether the neighbour up, or down, has the lower rank
+abbrev nearer : Bool → Bool → Bool
+nearer up s = cond up s (not s)
+
+abbrev pub neighbour : Bool → Float → Float
+neighbour up x = cond up (next_up x) (next_down x)
 
 next_up_is : (x : Float) → T (fits binary64 x) → T (finite x) → (s : Bool) (p : ℕ) → sign x ≡ s → rank_of x ≡ p → 1 < p → p < infinity → next_up x ≡ double s (further s p)
 next_up_is x h t s p e f g k = go s e
@@ -200,49 +188,35 @@ module _ (x : Float) (h : T (fits binary64 x)) (f : T (finite x)) where
         go true p g k = omega arith
         go false p g k = omega arith
 
-    up_nonzero : NotMinusZero (next_up x)
-    up_nonzero = ap (with_zero false) up_is ∙ with_zero_rank false s (further s p) (nonzero s).0 (nonzero s).1 ∙ sym up_is
+    -- up or down
+    next_is : (up : Bool) → neighbour up x ≡ double s (further (nearer up s) p)
+    next_is true = up_is
+    next_is false = down_is
 
-    down_nonzero : NotMinusZero (next_down x)
-    down_nonzero = ap (with_zero false) down_is ∙ with_zero_rank false s (further (not s) p) (nonzero (not s)).0 (nonzero (not s)).1 ∙ sym down_is
+    next_nonzero : (up : Bool) → NotMinusZero (neighbour up x)
+    next_nonzero up = let n = nearer up s in ap (with_zero false) (next_is up) ∙ with_zero_rank false s (further n p) (nonzero n).0 (nonzero n).1 ∙ sym (next_is up)
 
-    -- the patterns
-    up_pattern : (r : ℕ) → r ≡ cond (ltb b (2 ^ 63)) (b + 1) (b - 1) → T (not (nan_bits binary64 r)) × (of_bits binary64 r ≡ next_up x)
-    up_pattern r e =
-        let z = is_pattern r (further s p) (e ∙ ap (λ (t : Bool). cond t (b + 1) (b - 1)) test ∙ go s p b bits above_one) (nonzero s).1 in
-        (z.0, z.1 ∙ sym up_is)
+    next_pattern : (up : Bool) (r : ℕ) → r ≡ cond (beq up (ltb b (2 ^ 63))) (b + 1) (b - 1) → T (not (nan_bits binary64 r)) × (of_bits binary64 r ≡ neighbour up x)
+    next_pattern up r e =
+        let z = is_pattern r (further (nearer up s) p) (e ∙ ap (λ (t : Bool). cond (beq up t) (b + 1) (b - 1)) test ∙ go up s p b bits above_one) (nonzero (nearer up s)).1 in
+        (z.0, z.1 ∙ sym (next_is up))
       where
-        go : (s : Bool) (p b : ℕ) → b ≡ cond s (2 ^ 63) 0 + p → 1 < p → cond (not s) (b + 1) (b - 1) ≡ cond s (2 ^ 63) 0 + further s p
-        go true p b e g = omega arith
-        go false p b e g = omega arith
-
-    down_pattern : (r : ℕ) → r ≡ cond (ltb b (2 ^ 63)) (b - 1) (b + 1) → T (not (nan_bits binary64 r)) × (of_bits binary64 r ≡ next_down x)
-    down_pattern r e =
-        let z = is_pattern r (further (not s) p) (e ∙ ap (λ (t : Bool). cond t (b - 1) (b + 1)) test ∙ go s p b bits above_one) (nonzero (not s)).1 in
-        (z.0, z.1 ∙ sym down_is)
-      where
-        go : (s : Bool) (p b : ℕ) → b ≡ cond s (2 ^ 63) 0 + p → 1 < p → cond (not s) (b - 1) (b + 1) ≡ cond s (2 ^ 63) 0 + further (not s) p
-        go true p b e g = omega arith
-        go false p b e g = omega arith
+        go : (up s : Bool) (p b : ℕ) → b ≡ cond s (2 ^ 63) 0 + p → 1 < p → cond (beq up (not s)) (b + 1) (b - 1) ≡ cond s (2 ^ 63) 0 + further (nearer up s) p
+        go true true p b e g = omega arith
+        go true false p b e g = omega arith
+        go false true p b e g = omega arith
+        go false false p b e g = omega arith
 
 -- ---- the double or its neighbour, as the code has them
-pub up_no_zero : (x : Float) → T (fits binary64 x) → NotMinusZero x → (step : Bool) → Clear x step → NotMinusZero (cond step (next_up x) x)
-up_no_zero x h n true C = up_nonzero x h C.is_finite (C.least tt)
-up_no_zero x h n false C = n
-
-pub down_no_zero : (x : Float) → T (fits binary64 x) → NotMinusZero x → (step : Bool) → Clear x step → NotMinusZero (cond step (next_down x) x)
-down_no_zero x h n true C = down_nonzero x h C.is_finite (C.least tt)
-down_no_zero x h n false C = n
+pub stepped_no_zero : (up : Bool) (x : Float) → T (fits binary64 x) → NotMinusZero x → (step : Bool) → Clear x step → NotMinusZero (cond step (neighbour up x) x)
+stepped_no_zero up x h n true C = next_nonzero x h C.is_finite (C.least tt) up
+stepped_no_zero up x h n false C = n
 
 pub within_words : (x : Float) → T (fits binary64 x) → (step : Bool) → Clear x step → (T step → 0 < to_bits binary64 x) × (to_bits binary64 x < 2 ^ 64 - 1)
 within_words x h step C = (λ t. positive x h C.is_finite (C.least t), below_last x h C.is_finite)
 
-pub above_pattern : (x : Float) → T (fits binary64 x) → (step : Bool) → Clear x step → (r : ℕ) → r ≡ cond step (cond (ltb (to_bits binary64 x) (2 ^ 63)) (to_bits binary64 x + 1) (to_bits binary64 x - 1)) (to_bits binary64 x)
-    → T (not (nan_bits binary64 r)) × (of_bits binary64 r ≡ cond step (next_up x) x)
-above_pattern x h true C r e = up_pattern x h C.is_finite (C.least tt) r e
-above_pattern x h false C r e = own_pattern x h C.is_finite r e
-
-pub below_pattern : (x : Float) → T (fits binary64 x) → (step : Bool) → Clear x step → (r : ℕ) → r ≡ cond step (cond (ltb (to_bits binary64 x) (2 ^ 63)) (to_bits binary64 x - 1) (to_bits binary64 x + 1)) (to_bits binary64 x)
-    → T (not (nan_bits binary64 r)) × (of_bits binary64 r ≡ cond step (next_down x) x)
-below_pattern x h true C r e = down_pattern x h C.is_finite (C.least tt) r e
-below_pattern x h false C r e = own_pattern x h C.is_finite r e
+pub stepped_pattern : (up : Bool) (x : Float) → T (fits binary64 x) → (step : Bool) → Clear x step → (r : ℕ)
+    → r ≡ cond step (cond (beq up (ltb (to_bits binary64 x) (2 ^ 63))) (to_bits binary64 x + 1) (to_bits binary64 x - 1)) (to_bits binary64 x)
+    → T (not (nan_bits binary64 r)) × (of_bits binary64 r ≡ cond step (neighbour up x) x)
+stepped_pattern up x h true C r e = next_pattern x h C.is_finite (C.least tt) up r e
+stepped_pattern up x h false C r e = own_pattern x h C.is_finite r e

@@ -1,8 +1,10 @@
 -- Doubles that are not near 0, or not where it matters. Assumes nothing.
-use Rattle.std.specs.Prelude.{◌≡◌, Bool, false, ◌^◌, ◌-◌, ◌≤◌, T, Float}
+use Rattle.std.specs.Prelude.{◌≡◌, Bool, false, cond, ◌^◌, ◌-◌, ◌≤◌, T, Float}
+use Rattle.std.specs.Float.Ieee.{lt}
 use Rattle.std.specs.Float.Ieee.Scale.{finite}
 use Rattle.exact.specs.Value.{magnitude}
 use Rattle.doubles.specs.Directed.{with_zero}
+use Rattle.cdouble.specs.Compensated.{plus_zero}
 
 -- finite, and in magnitude at least 2 ^ -969: document 01, "Double-double", the least rounded product that shows its error
 pub record Far (x : Float) : Type 0 where
@@ -17,3 +19,7 @@ pub record Clear (x : Float) (step : Bool) : Type 0 where
 -- not −0
 abbrev pub NotMinusZero : Float → Type 0
 NotMinusZero x = with_zero false x ≡ x
+
+-- whether a rest lies above 0, or below it
+abbrev pub past : Bool → Float → Bool
+past up rest = cond up (lt plus_zero rest) (lt rest plus_zero)

@@ -11,4 +11,4 @@ mod sums;
 
 pub use products::product_bounds;
 pub use scaled::with_scaled;
-pub use sums::{sum_down, sum_up};
+pub use sums::rounded_sum;

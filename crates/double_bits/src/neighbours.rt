@@ -8,10 +8,10 @@ use ranked_doubles::{INFINITY, SIGN, negative, positive};
 pub fn next_up(x: f64) -> f64
     ensures { result ≡ next_up x }
 {
-    if x != x {
+    if x.is_nan() {
         return x;
     }
-    let b = f64::to_bits(x);
+    let b = x.to_bits();
     if b < INFINITY {
         positive(b + 1)
     } else if b == INFINITY {

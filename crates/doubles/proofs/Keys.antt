@@ -128,7 +128,7 @@ pub record Ordered (a b : Float) (x y : ℕ) : Type 0 where
   pub second_key : y ≡ order_of (to_bits binary64 b)
 
 module _ {a b : Float} {x y : ℕ} (o : Ordered a b x y) where
-  lt_order : ltb x y ≡ lt a b
+  pub lt_order : ltb x y ≡ lt a b
   lt_order =
       ap (λ (n : ℕ). ltb n y) (o.first_key ∙ key_bits a o.first o.first_fits)
       ∙ ap (ltb (key (sign a) (rank_of a))) (o.second_key ∙ key_bits b o.second o.second_fits)

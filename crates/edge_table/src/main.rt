@@ -7,142 +7,118 @@
 // operation on one number has it twice. A line of any other form counts as one that differs.
 #![tactic(auto)]
 
-use std::io;
-use std::io::Read;
-use tables::{Value, bits_of, count, double_of, number, read_full};
+use std::{fmt, io};
+use tables::{Tallies, bits_of, double_of, each_line, numbers};
 
 // Bytes in a line, its end included.
 const LINE: usize = 53;
 
-// The counts have a place for each of the ten operations, one for lines that name none, and one for all lines.
-const NONE: usize = 10;
-
-const ALL: usize = 11;
-
-// How many lines that differ are printed.
-const SHOWN: u64 = 20;
-
-// The place of an operation's counts, NONE for a letter that names none.
-fn operation(letter: u8) -> usize {
-    match letter {
-        b'a' => 0,
-        b'f' => 1,
-        b'M' => 2,
-        b'm' => 3,
-        b'u' => 4,
-        b'd' => 5,
-        b'U' => 6,
-        b'D' => 7,
-        b'p' => 8,
-        b'P' => 9,
-        _ => NONE,
-    }
+// An operation that is run.
+#[derive(Clone, Copy)]
+enum Operation {
+    Abs,
+    IsFinite,
+    Max,
+    Min,
+    NextUp,
+    NextDown,
+    SumUp,
+    SumDown,
+    ProductDown,
+    ProductUp,
 }
 
-// What an operation answers, as bits.
-fn answer(op: usize, a: f64, b: f64) -> u64 {
-    match op {
-        0 => bits_of(double_bits::abs(a)),
-        1 => if double_bits::is_finite(a) { 1 } else { 0 },
-        2 => bits_of(double_bits::max(a, b)),
-        3 => bits_of(double_bits::min(a, b)),
-        4 => bits_of(double_bits::next_up(a)),
-        5 => bits_of(double_bits::next_down(a)),
-        6 => bits_of(outward_rounding::sum_up(a, b)),
-        7 => bits_of(outward_rounding::sum_down(a, b)),
-        8 => {
-            let p = outward_rounding::product_bounds(a, b);
-            bits_of(p.down)
-        }
-        _ => {
-            let p = outward_rounding::product_bounds(a, b);
-            bits_of(p.up)
-        }
-    }
-}
+const KINDS: usize = 10;
 
-// Whether a line has its spaces and its end.
-fn is_ruled(s: &[u8; 53]) -> bool {
-    s[1] == b' ' && s[18] == b' ' && s[35] == b' ' && s[52] == b'\n'
-}
+// The operations in the order in which they are declared and reported.
+const OPERATIONS: [Operation; KINDS] = [
+    Operation::Abs,
+    Operation::IsFinite,
+    Operation::Max,
+    Operation::Min,
+    Operation::NextUp,
+    Operation::NextDown,
+    Operation::SumUp,
+    Operation::SumDown,
+    Operation::ProductDown,
+    Operation::ProductUp,
+];
 
-// Whether a line has the form of the table and the operation answers what it says.
-fn holds(s: &[u8; 53], op: usize) -> bool {
-    if op == NONE || !is_ruled(s) {
-        return false;
-    }
-    let Value::Is(a) = number(s, 2) else {
-        return false;
-    };
-    let Value::Is(b) = number(s, 19) else {
-        return false;
-    };
-    let Value::Is(right) = number(s, 36) else {
-        return false;
-    };
-    answer(op, double_of(a), double_of(b)) == right
-}
-
-// Runs the next line, and answers whether there may be another. What is left of a line cut short stays 0, so such a
-// line has not the form of one. The first lines that differ are printed.
-fn run_line<I: Read, R: Print>(
-    input: &mut I,
-    rt: &R,
-    ran: &mut [u64; 12],
-    differ: &mut [u64; 12],
-) -> io::Result<bool> {
-    let mut line = [0u8; 53];
-    let n = read_full(input, &mut line)?;
-    if n == 0 {
-        return Ok(false);
-    }
-    let op = operation(line[0]);
-    let ok = holds(&line, op);
-    count(ran, op);
-    count(ran, ALL);
-    if !ok {
-        count(differ, op);
-        count(differ, ALL);
-        if differ[ALL] <= SHOWN {
-            rt.write_all(&line)?;
+impl Operation {
+    // The operation that a letter names.
+    fn from_letter(letter: u8) -> Option<Operation> {
+        match letter {
+            b'a' => Some(Operation::Abs),
+            b'f' => Some(Operation::IsFinite),
+            b'M' => Some(Operation::Max),
+            b'm' => Some(Operation::Min),
+            b'u' => Some(Operation::NextUp),
+            b'd' => Some(Operation::NextDown),
+            b'U' => Some(Operation::SumUp),
+            b'D' => Some(Operation::SumDown),
+            b'p' => Some(Operation::ProductDown),
+            b'P' => Some(Operation::ProductUp),
+            _ => None,
         }
     }
-    Ok(n == LINE)
-}
 
-// Writes how many cases were run and how many differ, after a name.
-fn report(rt: &impl Print, name: &str, ran: u64, differ: u64) -> io::Result<()> {
-    println!(rt; "{name}{ran} cases, {differ} differ")
-}
-
-// A proved loop has to end, and nothing says that the input does. So the loop counts its turns down, from a number that
-// no run uses up.
-fn run_table<I: Read, R: Print>(
-    input: &mut I,
-    rt: &R,
-    ran: &mut [u64; 12],
-    differ: &mut [u64; 12],
-) -> io::Result<()> {
-    let mut turns = u64::MAX;
-    while turns > 0 && run_line(input, rt, ran, differ)? {
-        turns -= 1;
+    // What it answers, as bits.
+    fn answer(self, a: f64, b: f64) -> u64 {
+        match self {
+            Operation::Abs => bits_of(double_bits::abs(a)),
+            Operation::IsFinite => u64::from(double_bits::is_finite(a)),
+            Operation::Max => bits_of(double_bits::max(a, b)),
+            Operation::Min => bits_of(double_bits::min(a, b)),
+            Operation::NextUp => bits_of(double_bits::next_up(a)),
+            Operation::NextDown => bits_of(double_bits::next_down(a)),
+            Operation::SumUp => bits_of(outward_rounding::rounded_sum::<true>(a, b)),
+            Operation::SumDown => bits_of(outward_rounding::rounded_sum::<false>(a, b)),
+            Operation::ProductDown => bits_of(outward_rounding::product_bounds(a, b).down),
+            Operation::ProductUp => bits_of(outward_rounding::product_bounds(a, b).up),
+        }
     }
-    Ok(())
+
+    // Whether a line has the form of the table and the operation answers what it says.
+    fn holds(self, line: &[u8]) -> bool {
+        let Some(found) = numbers::<3>(line) else {
+            return false;
+        };
+        let [a, b, right] = found;
+        self.answer(double_of(a), double_of(b)) == right
+    }
+}
+
+impl fmt::Display for Operation {
+    fn fmt<W: fmt::Write>(&self, f: &mut fmt::Formatter<W>) -> fmt::Result {
+        f.write_str(match self {
+            Operation::Abs => "abs",
+            Operation::IsFinite => "is_finite",
+            Operation::Max => "max",
+            Operation::Min => "min",
+            Operation::NextUp => "next_up",
+            Operation::NextDown => "next_down",
+            Operation::SumUp => "sum_up",
+            Operation::SumDown => "sum_down",
+            Operation::ProductDown => "product_bounds down",
+            Operation::ProductUp => "product_bounds up",
+        })
+    }
+}
+
+// Runs a line. One that names no operation counts among all alone.
+fn run_line(rt: &impl Print, line: &[u8], tallies: &mut Tallies<KINDS>) -> io::Result<()> {
+    let op = line
+        .first()
+        .and_then(|letter| Operation::from_letter(*letter));
+    let agrees = op.is_some_and(|op| op.holds(line));
+    tallies.case(rt, op.map_or(KINDS, |op| op as usize), agrees, line)
 }
 
 fn main(rt: HostRuntime) -> io::Result<()> {
-    let mut ran = [0u64; 12];
-    let mut differ = [0u64; 12];
-    run_table(&mut rt.stdin(), &rt, &mut ran, &mut differ)?;
-    report(&rt, "abs: ", ran[0], differ[0])?;
-    report(&rt, "is_finite: ", ran[1], differ[1])?;
-    report(&rt, "max: ", ran[2], differ[2])?;
-    report(&rt, "min: ", ran[3], differ[3])?;
-    report(&rt, "next_up: ", ran[4], differ[4])?;
-    report(&rt, "next_down: ", ran[5], differ[5])?;
-    report(&rt, "sum_up: ", ran[6], differ[6])?;
-    report(&rt, "sum_down: ", ran[7], differ[7])?;
-    report(&rt, "product_bounds down: ", ran[8], differ[8])?;
-    report(&rt, "product_bounds up: ", ran[9], differ[9])?;
-    report(&rt, "", ran[ALL], differ[ALL])
+    let mut tallies = Tallies::<KINDS>::NONE;
+    each_line::<LINE, _, _>(&mut rt.stdin(), |line| run_line(&rt, line, &mut tallies))?;
+    for (op, tally) in OPERATIONS.iter().zip(&tallies.kinds) {
+        println!(rt; "{op}: {tally}")?;
+    }
+    println!(rt; "{}", tallies.all)
 }

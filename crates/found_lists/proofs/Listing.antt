@@ -18,13 +18,6 @@ Put b m place vars ups next vars' ups' =
     (next ≡ place + length (place_if b m))
     × ((vars' ≡ sets vars place (variables_at (place_if b m))) × (ups' ≡ sets ups place (sides_at (place_if b m))))
 
-pub put : {b : Bool} (m place : ℕ) (vars ups : List ℕ) → b ≡ true
-    → Put b m place vars ups (place + 1) (set vars place (m / 2)) (set ups place (m % 2))
-put m place vars ups e = rw e (refl, (refl, refl))
-
-pub passed : {b : Bool} (m place : ℕ) (vars ups : List ℕ) → b ≡ false → Put b m place vars ups place vars ups
-passed m place vars ups e = rw e (omega arith, (refl, refl))
-
 -- ---- the marks below m
 at_most_one : (b : Bool) (m : ℕ) → length (place_if b m) ≤ 1
 at_most_one true m = omega arith

@@ -34,17 +34,15 @@ fn put_items(found: Found, count: usize, vars: &mut [usize], ups: &mut [u8]) -> 
     ensures vars_after { vars.new ≡ sets vars.old 0 (variables_at (marked count found)) }
     ensures ups_after { ups.new ≡ sets ups.old 0 (sides_at (marked count found)) }
 {
-    let marks = found.marks;
     let mut items = 0;
-    let mut m = 0;
-    while m < 2 * count {
-        items = put_item(marks[m], m, items, vars, ups);
-        m += 1;
+    for (m, set) in found.marks[..2 * count].iter().enumerate() {
+        items = put_item(*set, m, items, vars, ups);
     }
     items
 }
 
 /// Writes the items found to the fronts of `vars` and `ups`, and answers how many they are.
+// Kept: it fills two lent lists, since there is no heap and the reckoning reads the widened list as two.
 pub fn listed(found: Found, count: usize, vars: &mut [usize], ups: &mut [u8]) -> usize
     requires { (count ≤ most_structurals + most_rows) × (2 * (most_structurals + most_rows) ≤ length vars.old) × (2 * (most_structurals + most_rows) ≤ length ups.old) }
     ensures value { result ≡ length (found_variables count found) }

@@ -5,6 +5,9 @@ use mathlib.Core.List.{List}
 use Prim.Native.Nat.{ℕ, ◌+◌, ◌*◌, ◌≤◌}
 use lib.ListN.{length, take, replicate, length-take, length-replicate}
 use lib.Seq.{sets, length-sets}
+use Rattle.std.specs.Prelude.{Result}
+use Rattle.refusal_numbers.specs.declared.Refusal.{Refusal}
+use Rattle.refusal_numbers.specs.Numbers.{numbered}
 use Rattle.questions.specs.Limits.{most_rows, most_structurals}
 use Rattle.sheet.specs.Sheet.{Sheet}
 use Rattle.kept.specs.Kept.{Lent, after}
@@ -20,8 +23,8 @@ use Rattle.found_lists.proofs.Fronts.{found_few, variables_back, sides_back}
 use Rattle.found_verdict.specs.FoundSheet.{with_found}
 
 -- what the contract says of an answer, and of the lists lent after it
-abbrev Answers : Sheet → Lent → Lent → Verdict → Type 0
-Answers s before now r = (r ≡ verdict s) × ((now ≡ after s before) × Declined s r)
+abbrev Answers : Sheet → Lent → Lent → Result Verdict Refusal → Type 0
+Answers s before now r = (numbered r ≡ verdict s) × ((now ≡ after s before) × Declined s r)
 
 -- the memory that the items are written to
 abbrev zeros : List ℕ
@@ -56,6 +59,6 @@ module _ (found : Found) (s : Sheet) {count : ℕ} (counted : count ≡ count_of
       let u : take items ups ≡ found_ups count found = sides_back found count listed.0 zeros few listed.1.1 in
       rw (v, u, counted)
 
-  pub found_full : (before : Lent) {now : Lent} {r : Verdict} → Answers (with_widened (take items vars) (take items ups) s) before now r
+  pub found_full : (before : Lent) {now : Lent} (r : Result Verdict Refusal) → Answers (with_widened (take items vars) (take items ups) s) before now r
       → Answers (with_found found s) before now r
-  found_full before {now} {r} answers = subst (λ (t : Sheet). Answers t before now r) same answers
+  found_full before {now} r answers = subst (λ (t : Sheet). Answers t before now r) same answers

@@ -3,93 +3,46 @@
 
 #![tactic(auto)]
 
-ghost use Rattle.std.specs.Prelude.{◌≡◌, [], T};
-ghost use Rattle.sheet.specs.Sheet.{sheet};
-ghost use Rattle.added_row.specs.Added.{lists};
-ghost use Rattle.kept.specs.Kept.{after, lent, outputs, sizes};
+ghost use Rattle.std.specs.Prelude.{◌≡◌, IfOk, T};
+ghost use Rattle.refusal_numbers.specs.Numbers.{numbered};
+ghost use Rattle.added_row.specs.Lent.{SameSlices, lent_lists};
+ghost use Rattle.kept.specs.Kept.{after, lent, sheet_lent};
 ghost use Rattle.gaps.specs.Rows.{ranges_of, rows_of};
 ghost use Rattle.gaps.specs.ThirdDemand.{NoPoint};
 ghost use Rattle.verdict.specs.Verdict.{verdict};
 ghost use Rattle.found_verdict.specs.FoundSheet.{with_found};
 
+use added_row::Lists;
 use found_lists::listed;
+use refusal_numbers::Refusal;
+use sheet::Sheet;
 use verdict::{Verdict, verdict_of};
 use widened_records::{Found, MARKS, variable_count};
 
-/// The verdict on a sheet with the widened list found.
-pub fn verdict_found<'a>(
+/// The verdict on a sheet with the widened list found, in place of the sheet's own.
+pub fn verdict_found(
     found: Found,
-    rows: usize,
-    structurals: usize,
-    entry_count: usize,
-    feasibility: f64,
-    checked: u8,
-    leaving_row: usize,
-    leaving_up: u8,
-    high: &'a mut [f64],
-    low: &'a mut [f64],
-    magnitudes: &'a mut [f64],
-    terms: &'a mut [u32],
-    errors: &'a mut [f64],
-    starts: &'a [usize],
-    columns: &'a [usize],
-    entries: &'a [f64],
-    right_sides: &'a [f64],
-    scales: &'a [f64],
-    integer: &'a [u8],
-    mins: &'a [f64],
-    maxs: &'a [f64],
-    low_tolerances: &'a [f64],
-    high_tolerances: &'a [f64],
-    basic: &'a [u8],
-    places: &'a [usize],
-    values: &'a [f64],
-    rho_hi: &'a [f64],
-    rho_lo: &'a [f64],
-    second: &'a [f64],
-) -> Verdict
-    ensures value { result ≡ verdict (with_found found (sheet (sizes rows structurals entry_count) feasibility checked leaving_row leaving_up (outputs (lists high.old low.old magnitudes.old terms.old) errors.old) starts.now columns.now entries.now right_sides.now scales.now integer.now mins.now maxs.now low_tolerances.now high_tolerances.now basic.now places.now values.now [] [] rho_hi.now rho_lo.now second.now)) }
-    ensures lent_after { lent (lists high.new low.new magnitudes.new terms.new) errors.new ≡ after (with_found found (sheet (sizes rows structurals entry_count) feasibility checked leaving_row leaving_up (outputs (lists high.old low.old magnitudes.old terms.old) errors.old) starts.now columns.now entries.now right_sides.now scales.now integer.now mins.now maxs.now low_tolerances.now high_tolerances.now basic.now places.now values.now [] [] rho_hi.now rho_lo.now second.now)) (lent (lists high.old low.old magnitudes.old terms.old) errors.old) }
-    ensures no_point { T result.declined → NoPoint (rows_of (with_found found (sheet (sizes rows structurals entry_count) feasibility checked leaving_row leaving_up (outputs (lists high.old low.old magnitudes.old terms.old) errors.old) starts.now columns.now entries.now right_sides.now scales.now integer.now mins.now maxs.now low_tolerances.now high_tolerances.now basic.now places.now values.now [] [] rho_hi.now rho_lo.now second.now))) (ranges_of (with_found found (sheet (sizes rows structurals entry_count) feasibility checked leaving_row leaving_up (outputs (lists high.old low.old magnitudes.old terms.old) errors.old) starts.now columns.now entries.now right_sides.now scales.now integer.now mins.now maxs.now low_tolerances.now high_tolerances.now basic.now places.now values.now [] [] rho_hi.now rho_lo.now second.now))) }
+    s: &Sheet,
+    l: &mut Lists,
+    errors: &mut [f64],
+) -> Result<Verdict, Refusal>
+    ensures value { numbered result ≡ verdict (with_found found (sheet_lent s.now l.old errors.old)) }
+    ensures lent_after { lent (lent_lists l.new) errors.new ≡ after (with_found found (sheet_lent s.now l.old errors.old)) (lent (lent_lists l.old) errors.old) }
+    ensures no_point { IfOk result (λ v. T v.declined → NoPoint (rows_of (with_found found (sheet_lent s.now l.old errors.old))) (ranges_of (with_found found (sheet_lent s.now l.old errors.old)))) }
+    ensures same_slices { SameSlices l.old l.new }
 {
     let mut vars = [0; MARKS];
     let mut ups = [0u8; MARKS];
     let items = listed(
         found,
-        variable_count(rows, structurals),
+        variable_count(s.rows, s.structurals),
         &mut vars,
         &mut ups,
     );
-    verdict_of(
-        rows,
-        structurals,
-        entry_count,
-        feasibility,
-        checked,
-        leaving_row,
-        leaving_up,
-        high,
-        low,
-        magnitudes,
-        terms,
-        errors,
-        starts,
-        columns,
-        entries,
-        right_sides,
-        scales,
-        integer,
-        mins,
-        maxs,
-        low_tolerances,
-        high_tolerances,
-        basic,
-        places,
-        values,
-        &vars[..items],
-        &ups[..items],
-        rho_hi,
-        rho_lo,
-        second,
-    )
+    let whole = Sheet {
+        widened_variables: &vars[..items],
+        widened_ups: &ups[..items],
+        ..*s
+    };
+    verdict_of(&whole, l, errors)
 }

@@ -1,12 +1,12 @@
 -- A text is read into lists that have room for the largest sheet. Here are the sheet that stands at their fronts, and the verdict on it. Assumes
 -- nothing.
-use Rattle.std.specs.Prelude.{cond, ℕ, ◌+◌, ◌≤◌, length, take}
+use Rattle.std.specs.Prelude.{cond, ℕ, ◌+◌, ◌≤◌, length, take, Result, Err}
 use Rattle.questions.specs.Limits.{most_rows, most_structurals, most_entries}
 use Rattle.questions.specs.Questions.{sizes_fine}
 use Rattle.sheet.specs.Sheet.{Sheet, sheet, sizes_of, variables}
 use Rattle.many_widened.specs.Fewest.{fewest, most_widened}
 use Rattle.verdict.specs.declared.Verdict.{Verdict}
-use Rattle.verdict.specs.Verdict.{refused_with, verdict}
+use Rattle.verdict.specs.Verdict.{verdict}
 
 -- each variable that the limits allow
 abbrev pub most_variables : ℕ
@@ -57,6 +57,6 @@ fronts items long =
     (take long.rows long.second)
 
 -- the verdict on it; where the sizes are beyond the limits the lists are not looked at
-unfoldable pub front_verdict : ℕ → Sheet → Verdict
+unfoldable pub front_verdict : ℕ → Sheet → Result Verdict ℕ
 front_verdict widened long =
-    cond (sizes_fine long.rows long.structurals long.entry_count) (verdict (fronts (fewest widened) long)) (refused_with 2)
+    cond (sizes_fine long.rows long.structurals long.entry_count) (verdict (fronts (fewest widened) long)) (Err 2)

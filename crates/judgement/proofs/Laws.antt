@@ -12,7 +12,7 @@ use Rattle.variable_bounds.specs.Model.{Model}
 use Rattle.walk_states.specs.declared.steps.End.{End}
 use Rattle.walk_states.specs.declared.steps.End.TheVariants.{Through, Spoilt as WalkSpoilt, Unlimited as WalkUnlimited}
 use Rattle.walk_states.specs.declared.steps.Walked.{Walked}
-use Rattle.walk.proofs.Laws.{by_test}
+use Rattle.std.proofs.lemmas.Bool.{cond_both}
 use Rattle.weighed_gap.specs.declared.gap.GapSum.{GapSum}
 use Rattle.weighed_gap.specs.declared.gap.GapSum.TheVariants.{Finite, Unlimited, Spoilt}
 use Rattle.slack_cut.specs.Cut.{cut_at}
@@ -28,13 +28,13 @@ Sound Spoilt = Unit
 
 finite_sum_sound : (sum : CDouble) → Sound (finite_sum sum)
 unfolding finite_sum
-finite_sum_sound sum = by_test Sound (finite (value sum)) {x = Finite sum} {y = Spoilt} (λ t. t) (λ f. tt)
+finite_sum_sound sum = cond_both (finite (value sum)) (Finite sum) Spoilt Sound (λ t. t) (λ f. tt)
 
 gap_sound : (beta impliedMax : CDouble) (end : End) → Sound (gap_sum beta impliedMax end)
 unfolding gap_sum
 gap_sound beta impliedMax Through =
     let sum = plus_scaled beta impliedMax minus_one in
-    by_test Sound (finite (value beta)) {x = finite_sum sum} {y = Spoilt} (λ t. finite_sum_sound sum) (λ f. tt)
+    cond_both (finite (value beta)) (finite_sum sum) Spoilt Sound (λ t. finite_sum_sound sum) (λ f. tt)
 gap_sound beta impliedMax WalkSpoilt = tt
 gap_sound beta impliedMax WalkUnlimited = tt
 

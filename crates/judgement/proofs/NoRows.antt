@@ -21,7 +21,8 @@ use Rattle.walk_states.specs.declared.steps.Walked.{Walked}
 use Rattle.walk_step.specs.Step.{coefficient_at, step}
 use Rattle.walk.specs.Walk.{onward, started, walk_over}
 use Rattle.walk_states.specs.States.{walked}
-use Rattle.walk.proofs.Laws.{by_test, skipped}
+use Rattle.std.proofs.lemmas.Bool.{cond_both}
+use Rattle.walk.proofs.Laws.{skipped}
 use Rattle.weighed_gap.specs.declared.gap.GapSum.{GapSum}
 use Rattle.weighed_gap.specs.declared.gap.GapSum.TheVariants.{Finite}
 use Rattle.weighed_gap.specs.declared.gap.Weight.{Weight}
@@ -85,7 +86,7 @@ not_above = refl
 weigh_fails : (pairs : CDouble) (others leavingRoom cut : Float) → lt others (value pairs) ≡ false → (weigh (Finite pairs) others leavingRoom cut).holds ≡ false
 unfolding weigh weighed_apart weighed_plain
 weigh_fails pairs others leavingRoom cut fails =
-    by_test (λ (w : Weight). w.holds ≡ false) (lt cut leavingRoom) (λ apart. rw fails refl) (λ plain. fails)
+    cond_both (lt cut leavingRoom) _ _ (λ (w : Weight). w.holds ≡ false) (λ apart. rw fails refl) (λ plain. fails)
 
 judged_fails : (m : Model) (leaving : ℕ) (c : Sums) → c.rows ≡ 0 → NoneSummed c → (judged m leaving c (walked (started c) Through)).holds ≡ false
 unfolding judged

@@ -1,14 +1,15 @@
 //! The judgement of a walk over the variables, and of a certificate.
 ghost use Rattle.std.specs.Prelude.{◌≡◌};
-ghost use Rattle.variable_bounds.specs.Model.{model};
+ghost use Rattle.variable_bounds.specs.Model.{lent_model};
 ghost use Rattle.certificate.specs.Certificate.{certificate};
-ghost use Rattle.added_row.specs.Added.{lists};
+ghost use Rattle.added_row.specs.Lent.{lent_lists};
 ghost use Rattle.judgement.specs.Judgement.{judged, judgement};
 ghost use Rattle.judgement.specs.Reads.{JudgeFits};
 ghost use Rattle.slack_cut.specs.Reads.{LeavingFits};
 
-use added_row::Sums;
+use added_row::{Lists, Sums};
 use cdouble::compensated_error;
+use sheet::Sheet;
 use slack_cut::cut_at;
 use upward_rounding::add_up;
 use walk::walk_over;
@@ -28,63 +29,22 @@ pub struct Proof {
 }
 
 /// The judgement of a walk over all variables.
-fn judged(
-    structurals: usize,
-    feasibility: f64,
-    leaving: usize,
-    c: Sums,
-    walked: Walked,
-    starts: &[usize],
-    columns: &[usize],
-    entries: &[f64],
-    right_sides: &[f64],
-    scales: &[f64],
-    integer: &[u8],
-    mins: &[f64],
-    maxs: &[f64],
-    low_tolerances: &[f64],
-    high_tolerances: &[f64],
-    values: &[f64],
-    widened_vars: &[usize],
-    widened_ups: &[u8],
-) -> Proof
-    requires { LeavingFits (model structurals feasibility starts.now columns.now entries.now right_sides.now scales.now integer.now mins.now maxs.now low_tolerances.now high_tolerances.now values.now widened_vars.now widened_ups.now) leaving }
-    ensures { result ≡ judged (model structurals feasibility starts.now columns.now entries.now right_sides.now scales.now integer.now mins.now maxs.now low_tolerances.now high_tolerances.now values.now widened_vars.now widened_ups.now) leaving c walked }
+#[tactic(auto, unfolding(crate::specs::Judgement::judged))]
+fn judged(s: &Sheet, leaving: usize, c: Sums, walked: Walked) -> Proof
+    requires { LeavingFits (lent_model s.now) leaving }
+    ensures { result ≡ judged (lent_model s.now) leaving c walked }
 {
     let w = walked.walk;
-    let end = walked.end;
-    let beta = c.beta;
-    let implied_max = w.implied_max;
-    let sum = gap_sum(beta, implied_max, end);
+    let sum = gap_sum(c.beta, w.implied_max, walked.end);
     let gap = gap_of(sum);
     let sums = compensated_error(w.terms, w.longest, w.magnitude);
-    let cut = cut_at(
-        structurals,
-        feasibility,
-        starts,
-        columns,
-        entries,
-        right_sides,
-        scales,
-        integer,
-        mins,
-        maxs,
-        low_tolerances,
-        high_tolerances,
-        values,
-        widened_vars,
-        widened_ups,
-        leaving,
-        w.leaving_edge,
-        sums,
-        gap,
-    );
+    let cut = cut_at(s, leaving, w.leaving_edge, sums, gap);
     let weight = weigh(sum, add_up(w.room, sums), w.leaving_room, cut);
     Proof {
         holds: weight.holds,
-        gap: gap,
+        gap,
         allowance: weight.allowance,
-        cut: cut,
+        cut,
         zero_within_error: w.zero_within_error,
         multipliers_zeroed: c.zeroed,
         rows: c.rows,
@@ -92,79 +52,19 @@ fn judged(
 }
 
 /// The judgement of a certificate over `count` variables.
+#[tactic(auto, unfolding(crate::specs::Judgement::judgement))]
 pub fn judge(
-    structurals: usize,
-    feasibility: f64,
+    s: &Sheet,
     count: usize,
     estimated: bool,
     leaving: usize,
     c: Sums,
-    high: &[f64],
-    low: &[f64],
-    magnitudes: &[f64],
-    terms: &[u32],
+    l: &Lists,
     errors: &[f64],
-    starts: &[usize],
-    columns: &[usize],
-    entries: &[f64],
-    right_sides: &[f64],
-    scales: &[f64],
-    integer: &[u8],
-    mins: &[f64],
-    maxs: &[f64],
-    low_tolerances: &[f64],
-    high_tolerances: &[f64],
-    values: &[f64],
-    widened_vars: &[usize],
-    widened_ups: &[u8],
 ) -> Proof
-    requires { JudgeFits (model structurals feasibility starts.now columns.now entries.now right_sides.now scales.now integer.now mins.now maxs.now low_tolerances.now high_tolerances.now values.now widened_vars.now widened_ups.now) count leaving (lists high.now low.now magnitudes.now terms.now) errors.now c }
-    ensures { result ≡ judgement (model structurals feasibility starts.now columns.now entries.now right_sides.now scales.now integer.now mins.now maxs.now low_tolerances.now high_tolerances.now values.now widened_vars.now widened_ups.now) leaving estimated count (certificate (lists high.now low.now magnitudes.now terms.now) errors.now c) }
+    requires { JudgeFits (lent_model s.now) count leaving (lent_lists l.now) errors.now c }
+    ensures { result ≡ judgement (lent_model s.now) leaving estimated count (certificate (lent_lists l.now) errors.now c) }
 {
-    let walked = walk_over(
-        structurals,
-        feasibility,
-        count,
-        estimated,
-        leaving,
-        c,
-        high,
-        low,
-        magnitudes,
-        terms,
-        errors,
-        starts,
-        columns,
-        entries,
-        right_sides,
-        scales,
-        integer,
-        mins,
-        maxs,
-        low_tolerances,
-        high_tolerances,
-        values,
-        widened_vars,
-        widened_ups,
-    );
-    judged(
-        structurals,
-        feasibility,
-        leaving,
-        c,
-        walked,
-        starts,
-        columns,
-        entries,
-        right_sides,
-        scales,
-        integer,
-        mins,
-        maxs,
-        low_tolerances,
-        high_tolerances,
-        values,
-        widened_vars,
-        widened_ups,
-    )
+    let walked = walk_over(s, count, estimated, leaving, c, l, errors);
+    judged(s, leaving, c, walked)
 }

@@ -4,7 +4,7 @@ use mathlib.Core.Path.{◌≡◌, refl, ap, sym, subst, ◌∙◌}
 use mathlib.Core.Bool.{Bool, true, false, cond}
 use mathlib.Core.List.{List}
 use Prim.Native.Nat.{ℕ, zero, suc, ◌<◌, ◌≤◌}
-use borrow.Author.Tests.{eq-eqb, ne_eqb}
+use borrow.Author.Tests.{eq-eqb}
 use lib.ListN.{length, get_or, drop, length-append}
 use lib.Ieee.{Float, nan}
 use Rattle.cdouble.specs.Compensated.{plus_zero}
@@ -25,8 +25,10 @@ use Rattle.walk.specs.Walk.{onward, walk_over}
 use Rattle.judgement.specs.declared.gap.Proof.{Proof}
 use Rattle.judgement.specs.Reads.{JudgeFits}
 use Rattle.judgement.specs.Judgement.{judged, judgement}
-use Rattle.kept.specs.declared.Kept.{Kept}
-use Rattle.kept.specs.Kept.{certificate_of, proof_of, kept, refused, answer, outputs, lent, filled_in, after, Lent as KeptLent}
+use Rattle.refusal_numbers.specs.declared.Refusal.{Refusal}
+use Rattle.refusal_numbers.specs.Numbers.{number_of}
+use Rattle.refusal_numbers.proofs.Numbers.{not_zero}
+use Rattle.kept.specs.Kept.{certificate_of, proof_of, outputs, lent, filled_in, after, Lent as KeptLent}
 use Rattle.kept.proofs.Places.{place_written}
 use Rattle.kept.proofs.Fits.{certificate_fits, combined-lent, judge_fits}
 
@@ -112,28 +114,21 @@ module _ (s : Sheet) (accepted : Accepted s) (l : Lists) (e : List Float) (lends
           (written-long (system_of s).estimated (certificate_of s) l e (combined-lent s accepted) (certificate_fits s accepted l e lends).lent.in_errors))
           sums_are)
 
-      pub kept_is : {p : Proof} {r : Kept} → p ≡ judgement (model_of s) leaving estimated (variables s) (certificate k f c) → r ≡ kept p → r ≡ kept (proof_of s)
+      pub kept_is : {p : Proof} → p ≡ judgement (model_of s) leaving estimated (variables s) (certificate k f c) → p ≡ proof_of s
       unfolding proof_of
-      kept_is judges answers =
-          answers
-          ∙ ap kept
-          (judges
+      kept_is judges =
+          judges
           ∙ ap (λ (v : ℕ). judgement (model_of s) v estimated (variables s) (certificate k f c)) leaves
           ∙ ap (λ (b : Bool). judgement (model_of s) (leaving_variable s) b (variables s) (certificate k f c)) bounds
           ∙ ap (judgement (model_of s) (leaving_variable s) (system_of s).estimated (variables s)) writes
-          ∙ judgement-written (system_of s).estimated (certificate_of s) l e (combined-lent s accepted) (model_of s) (leaving_variable s))
+          ∙ judgement-written (system_of s).estimated (certificate_of s) l e (combined-lent s accepted) (model_of s) (leaving_variable s)
 
--- ---- the answer, by the number of the first question whose answer is no
-module _ (s : Sheet) (before : KeptLent) {n : ℕ} (number : n ≡ first_no s) where
-  pub accepts : n ≡ 0 → Accepted s
-  accepts none = sym number ∙ none
+-- ---- what is lent afterwards, where no question refuses and where one does
+module _ (s : Sheet) (before : KeptLent) where
+  pub after_full : {now : KeptLent} → 0 ≡ first_no s → now ≡ filled_in s before → now ≡ after s before
+  unfolding after
+  after_full none filled = when_true before filled (eq-eqb (first_no s) 0 (sym none))
 
-  pub answer_full : {r : Kept} {now : KeptLent} → n ≡ 0 → r ≡ kept (proof_of s) → now ≡ filled_in s before → (r ≡ answer s) × (now ≡ after s before)
-  unfolding answer after
-  answer_full none e f = (when_true (refused (first_no s)) e (eq-eqb (first_no s) 0 (accepts none)), when_true before f (eq-eqb (first_no s) 0 (accepts none)))
-
-  pub answer-refused : {r : Kept} → (n ≡ 0 → ⊥) → r ≡ refused n → (r ≡ answer s) × (before ≡ after s before)
-  unfolding answer after
-  answer-refused some e =
-      let differs = ne_eqb (first_no s) 0 (λ none. some (number ∙ none)) in
-      (when_false (kept (proof_of s)) (e ∙ ap refused number) differs, when_false (filled_in s before) refl differs)
+  pub after_refused : (refusal : Refusal) → number_of refusal ≡ first_no s → before ≡ after s before
+  unfolding after
+  after_refused refusal is = when_false (filled_in s before) refl (not_zero refusal is)

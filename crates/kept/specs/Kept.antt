@@ -1,19 +1,20 @@
--- The kept numbers of a sheet, what is lent afterwards, and the answer: document 01, "Kept, and written anew" and "Questions put to the input".
+-- The kept numbers of a sheet, and what is lent afterwards: document 01, "Kept, and written anew" and "Questions put to the input".
 -- Assumes nothing.
-use Rattle.std.specs.Prelude.{false, cond, List, ℕ, eqb, length, Float}
-use Rattle.cdouble.specs.Compensated.{plus_zero}
-use Rattle.sheet.specs.declared.answers.Sizes.{Sizes}
+use Rattle.std.specs.Prelude.{cond, List, ℕ, eqb, length, Float}
 use Rattle.sheet.specs.declared.answers.Outputs.{Outputs}
-use Rattle.sheet.specs.Sheet.{Sheet, variables}
+use Rattle.sheet.specs.declared.lent.Sheet.{Sheet as SheetSlices}
+use Rattle.sheet.specs.Sheet.{Sheet, Sizes, variables}
+use Rattle.sheet.specs.Lent.{lent_sheet}
 use Rattle.sheet_answers.specs.Answers.{first_no}
 use Rattle.variable_bounds.specs.Model.{model_of}
 use Rattle.edges.specs.Edges.{leaving_variable}
 use Rattle.certificate.specs.System.{system_of}
+use Rattle.added_row.specs.declared.lent.Lists.{Lists as ListSlices}
 use Rattle.added_row.specs.Added.{Lists}
+use Rattle.added_row.specs.Lent.{lent_lists}
 use Rattle.certificate.specs.Certificate.{Certificate, combined, written}
 use Rattle.judgement.specs.declared.gap.Proof.{Proof}
 use Rattle.judgement.specs.Judgement.{judgement}
-use Rattle.kept.specs.declared.Kept.{Kept}
 
 -- the certificate of a sheet
 unfoldable pub certificate_of : Sheet → Certificate
@@ -22,36 +23,6 @@ certificate_of s = combined (system_of s) s.rows (variables s)
 -- `proof_of`: "Reference answer: `Solver::proof_of`, with the lists and row count of the `certificate` it builds"
 unfoldable pub proof_of : Sheet → Proof
 proof_of s = judgement (model_of s) (leaving_variable s) (system_of s).estimated (variables s) (certificate_of s)
-
--- ---- the answer: the number of a refusal and nothing else, or 0 and the kept numbers
-abbrev pub refused : ℕ → Kept
-refused number =
-    record {
-      refusal = number;
-      holds = false;
-      gap = plus_zero;
-      allowance = plus_zero;
-      cut = plus_zero;
-      zero_within_error = 0;
-      multipliers_zeroed = 0;
-      rows = 0;
-    }
-
-abbrev pub kept : Proof → Kept
-kept p =
-    record {
-      refusal = 0;
-      holds = p.holds;
-      gap = p.gap;
-      allowance = p.allowance;
-      cut = p.cut;
-      zero_within_error = p.zero_within_error;
-      multipliers_zeroed = p.multipliers_zeroed;
-      rows = p.rows;
-    }
-
-unfoldable pub answer : Sheet → Kept
-answer s = cond (eqb (first_no s) 0) (kept (proof_of s)) (refused (first_no s))
 
 -- ---- what is lent to be written
 pub record Lent : Type 0 where
@@ -64,6 +35,10 @@ lent l e = record { lists_of = l; errors = e }
 -- how many places each has
 abbrev pub outputs : Lists → List Float → Outputs
 outputs l e = record { high = length l.high; low = length l.low; magnitudes = length l.magnitudes; terms = length l.terms; errors = length e }
+
+-- the sheet that the slices say, with as many places for outputs as are lent
+abbrev pub sheet_lent : SheetSlices → ListSlices → List Float → Sheet
+sheet_lent s l e = lent_sheet s (outputs (lent_lists l) e)
 
 abbrev pub sizes : ℕ → ℕ → ℕ → Sizes
 sizes rows structurals entries = record { rows = rows; structurals = structurals; entries = entries }

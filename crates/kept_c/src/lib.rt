@@ -1,12 +1,68 @@
-//! The kept numbers for callers in C: the library's function of the same name, with the same contract.
+//! The kept numbers for callers in C: the library's function of the same name, over slices that are lent one by one.
 #![tactic(auto)]
 
 ghost use Rattle.std.specs.Prelude.{◌≡◌};
 ghost use Rattle.sheet.specs.Sheet.{sheet};
 ghost use Rattle.added_row.specs.Added.{lists};
-ghost use Rattle.kept.specs.Kept.{after, answer, lent, outputs, sizes};
+ghost use Rattle.refusal_numbers.specs.Numbers.{numbered};
+ghost use Rattle.kept.specs.Kept.{after, lent, outputs, sizes};
+ghost use Rattle.kept_c.specs.Answer.{answer, refused, told};
 
-use kept::Kept;
+use added_row::Lists;
+use judgement::Proof;
+use refusal_numbers::Refusal;
+use sheet::Sheet;
+
+/// The number of the first question whose answer is no, or 0 and the kept numbers.
+// Kept: C has no Result: a number beside fields that are 0 where it is not.
+#[repr(C)]
+#[derive(Clone, Copy)]
+pub struct Kept {
+    pub refusal: u32,
+    pub holds: bool,
+    pub gap: f64,
+    pub allowance: f64,
+    pub cut: f64,
+    pub zero_within_error: usize,
+    pub multipliers_zeroed: usize,
+    pub rows: usize,
+}
+
+/// The answer to a sheet that a question refuses.
+fn refused(number: u32) -> Kept
+    ensures { result ≡ refused number }
+{
+    Kept {
+        refusal: number,
+        holds: false,
+        gap: 0.0,
+        allowance: 0.0,
+        cut: 0.0,
+        zero_within_error: 0,
+        multipliers_zeroed: 0,
+        rows: 0,
+    }
+}
+
+impl From<Result<Proof, Refusal>> for Kept {
+    ghost from_gives = { λ answer kept. kept ≡ told (numbered answer) };
+
+    fn from(answer: Result<Proof, Refusal>) -> Kept {
+        match answer {
+            Ok(p) => Kept {
+                refusal: 0,
+                holds: p.holds,
+                gap: p.gap,
+                allowance: p.allowance,
+                cut: p.cut,
+                zero_within_error: p.zero_within_error,
+                multipliers_zeroed: p.multipliers_zeroed,
+                rows: p.rows,
+            },
+            Err(refusal) => refused(u32::from(refusal)),
+        }
+    }
+}
 
 /// The questions, and the kept numbers of a sheet that passes them.
 #[unsafe(no_mangle)]
@@ -45,7 +101,7 @@ pub extern "C" fn proof_of(
     ensures value { result ≡ answer (sheet (sizes rows structurals entry_count) feasibility checked leaving_row leaving_up (outputs (lists high.old low.old magnitudes.old terms.old) errors.old) starts.now columns.now entries.now right_sides.now scales.now integer.now mins.now maxs.now low_tolerances.now high_tolerances.now basic.now places.now values.now widened_vars.now widened_ups.now rho_hi.now rho_lo.now second.now) }
     ensures lent_after { lent (lists high.new low.new magnitudes.new terms.new) errors.new ≡ after (sheet (sizes rows structurals entry_count) feasibility checked leaving_row leaving_up (outputs (lists high.old low.old magnitudes.old terms.old) errors.old) starts.now columns.now entries.now right_sides.now scales.now integer.now mins.now maxs.now low_tolerances.now high_tolerances.now basic.now places.now values.now widened_vars.now widened_ups.now rho_hi.now rho_lo.now second.now) (lent (lists high.old low.old magnitudes.old terms.old) errors.old) }
 {
-    kept::proof_of(
+    let s = Sheet {
         rows,
         structurals,
         entry_count,
@@ -53,11 +109,6 @@ pub extern "C" fn proof_of(
         checked,
         leaving_row,
         leaving_up,
-        high,
-        low,
-        magnitudes,
-        terms,
-        errors,
         starts,
         columns,
         entries,
@@ -71,10 +122,17 @@ pub extern "C" fn proof_of(
         basic,
         places,
         values,
-        widened_vars,
+        widened_variables: widened_vars,
         widened_ups,
         rho_hi,
         rho_lo,
         second,
-    )
+    };
+    let mut l = Lists {
+        high,
+        low,
+        magnitudes,
+        terms,
+    };
+    Kept::from(kept::proof_of(&s, &mut l, errors))
 }

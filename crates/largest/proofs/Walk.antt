@@ -1,32 +1,24 @@
 -- What the functions of the walk over the variables show, from what their calls gave, and the loop. Assumes nothing.
 use mathlib.Core.Path.{◌≡◌, refl, ap, ap₂, sym, ◌∙◌}
-use mathlib.Core.Bool.{Bool, true, false, not, cond, ◌&&◌, ◌||◌}
-use mathlib.Core.List.{List}
+use mathlib.Core.Bool.{Bool, true, false, not, cond}
+use Rattle.std.specs.Prelude.{Option, Some, None}
 use Prim.Native.Nat.{ℕ, ◌+◌, ◌<◌, ◌≤◌}
 use borrow.Author.Tests.{not-true, not-false}
-use lib.ListN.{get_or}
 use lib.Ieee.{Float, nan, inf, fin, eq}
 use lib.Ieee.Scale.{finite}
 use Rattle.exact.proofs.Turns.{Turn, first, next, done}
 use Rattle.doubles.specs.Compare.{larger}
-use Rattle.doubles.specs.Directed.{sum_up, product_up}
+use Rattle.doubles.specs.Directed.{sum_up}
 use Rattle.cdouble.specs.Compensated.{plus_zero}
 use Rattle.cdouble.proofs.Contracts.{when_true, when_false}
 use Rattle.questions.proofs.All.{and_left, and_right, Passed, first as Passed-none, next as passed-one, stop as not-passed, done as passed-all}
 use Rattle.gaps.specs.Rows.{Ranges}
-use Rattle.gaps.specs.Steps.{skipped, unlimited, limited, limited_at, at_edge, term, with_term, largest}
+use Rattle.gaps.specs.Steps.{skipped, limited, limited_at, at_edge, term, with_term, largest}
 use Rattle.gaps.proofs.Agreement.{limits_same, largest_same}
-use Rattle.largest.specs.declared.Range.{Range}
-use Rattle.largest.specs.declared.Largest.{Largest}
-use Rattle.largest.specs.declared.Largest.TheVariants.{Sum, Unlimited}
+use Rattle.both_edges.specs.declared.Sides.{Sides}
 use Rattle.largest.specs.Walk.{range_at, stepped, largest_or_infinite}
 
 module _ (l u low high : Float) where
-  -- ---- `limited`
-  pub is_limited : {f g s t : Bool} → f ≡ finite l → g ≡ finite u → s ≡ skipped l u → t ≡ unlimited l u low high → (f && g && (s || not t)) ≡ limited l u low high
-  unfolding limited
-  is_limited e f g h = rw (e, f, g, h) refl
-
   -- ---- `term`
   module _ {f : Bool} (low-is : f ≡ finite low) where
     pub term_at_high : {r : Float} → not f ≡ true → r ≡ at_edge l u high → r ≡ term l u low high
@@ -53,9 +45,6 @@ module _ (l u low high : Float) where
     unfolding with_term
     and_term t e f = when_false _ (f ∙ ap (sum_up sum) e) (sym is ∙ t)
 
-pub at_edge_lem : (l u edge : Float) {x y r : Float} → x ≡ product_up l edge → y ≡ product_up u edge → r ≡ larger x y → r ≡ at_edge l u edge
-at_edge_lem l u edge e f g = rw (g, e, f) refl
-
 -- ---- `step`
 -- a number that equals 0 is finite, so a variable that is skipped has a limit, whatever its edges
 zero-finite : (x : Float) → eq x plus_zero ≡ true → finite x ≡ true
@@ -69,31 +58,31 @@ unfolding limited
 skipped-limited l u low high e =
     rw (zero-finite l (and_left (eq l plus_zero) (eq u plus_zero) e), zero-finite u (and_right (eq l plus_zero) (eq u plus_zero) e), e) refl
 
-module _ (l u : Float) (g : Range) (sum : Float) where
-  pub step_skips : {s : Bool} → s ≡ skipped l u → s ≡ true → Sum sum ≡ stepped l u g sum
+module _ (l u : Float) (g : Sides) (sum : Float) {s : Bool} (is : s ≡ skipped l u) where
+  pub step_skips : s ≡ true → Some sum ≡ stepped l u g sum
   unfolding stepped
-  step_skips is t =
-      when_true Unlimited (ap Sum (without_term l u g.low g.high sum is t)) (skipped-limited l u g.low g.high (sym is ∙ t))
+  step_skips t =
+      when_true None (ap Some (without_term l u g.low g.high sum is t)) (skipped-limited l u g.low g.high (sym is ∙ t))
 
-  module _ {range : Range} {f : Bool} (known : range ≡ g) (is : f ≡ limited l u range.low range.high) where
+  module _ {low high : Float} {f : Bool} (low-is : low ≡ g.low) (high-is : high ≡ g.high) (limited-is : f ≡ limited l u low high) where
     same_limited : {b : Bool} → f ≡ b → limited l u g.low g.high ≡ b
-    same_limited e = ap (λ (x : Range). limited l u x.low x.high) (sym known) ∙ sym is ∙ e
+    same_limited e = ap₂ (λ (x y : Float). limited l u x y) (sym low-is) (sym high-is) ∙ sym limited-is ∙ e
 
-    pub step_ends : not f ≡ true → Unlimited ≡ stepped l u g sum
+    pub step_ends : not f ≡ true → None ≡ stepped l u g sum
     unfolding stepped
     step_ends t = when_false _ refl (same_limited (not-true f t))
 
-    pub step_counts : {r : Float} → not f ≡ false → r ≡ with_term l u range.low range.high sum → Sum r ≡ stepped l u g sum
+    pub step_counts : {x r : Float} → s ≡ false → not f ≡ false → x ≡ term l u low high → r ≡ sum_up sum x → Some r ≡ stepped l u g sum
     unfolding stepped
-    step_counts t e =
-        when_true Unlimited (ap Sum (e ∙ ap (λ (x : Range). with_term l u x.low x.high sum) known)) (same_limited (not-false f t))
+    step_counts counted t e r =
+        when_true None (ap Some (and_term l u g.low g.high sum is counted (e ∙ ap₂ (λ (x y : Float). term l u x y) low-is high-is) r)) (same_limited (not-false f t))
 
 -- the other way round
-went_on : (b : Bool) {x y : Float} → cond b (Sum x) Unlimited ≡ Sum y → (b ≡ true) × (y ≡ x)
+went_on : (b : Bool) {x y : Float} → cond b (Some x) None ≡ Some y → (b ≡ true) × (y ≡ x)
 went_on true e = (refl, cc)
 went_on false e = (cc, cc)
 
-ended : (b : Bool) (x : Float) → cond b (Sum x) Unlimited ≡ Unlimited → b ≡ false
+ended : (b : Bool) (x : Float) → cond b (Some x) None ≡ None → b ≡ false
 ended true x e = cc
 ended false x e = refl
 
@@ -112,8 +101,8 @@ module _ {lower upper : ℕ → Float} {g : Ranges} {count v : ℕ} {sum : Float
   unfolding largest_or_infinite
   all_walked end = when_true (inf false) (done turn.summed end) (sym (passed-all turn.limited_so_far end))
 
-  module _ {step : Largest} (less : v < count) (steps : step ≡ stepped (lower v) (upper v) (range_at g v) sum) where
-    pub next_variable : {more : Float} → step ≡ Sum more → Walking lower upper g count (v + 1) more
+  module _ {step : Option Float} (less : v < count) (steps : step ≡ stepped (lower v) (upper v) (range_at g v) sum) where
+    pub next_variable : {more : Float} → step ≡ Some more → Walking lower upper g count (v + 1) more
     unfolding largest stepped
     next_variable e =
         let on = went_on (limited_at lower upper g v) (sym steps ∙ e) in
@@ -122,7 +111,7 @@ module _ {lower upper : ℕ → Float} {g : Ranges} {count v : ℕ} {sum : Float
           summed = next (with_term (lower v) (upper v) (g.low v) (g.high v)) turn.summed less refl on.1;
         }
 
-    pub walk_ends : step ≡ Unlimited → inf false ≡ largest_or_infinite lower upper g count
+    pub walk_ends : step ≡ None → inf false ≡ largest_or_infinite lower upper g count
     unfolding stepped largest_or_infinite
     walk_ends e = when_false _ refl (sym (not-passed turn.limited_so_far less refl (sym (ended (limited_at lower upper g v) _ (sym steps ∙ e)))))
 

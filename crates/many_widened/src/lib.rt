@@ -15,9 +15,5 @@ pub const MOST_WIDENED: usize = 2 * (MOST_STRUCTURALS + MOST_ROWS) + 1;
 pub fn looked_at(widened: usize) -> usize
     ensures { result ≡ fewest widened }
 {
-    if widened < MOST_WIDENED {
-        widened
-    } else {
-        MOST_WIDENED
-    }
+    widened.min(MOST_WIDENED)
 }

@@ -1,1 +1,2 @@
 pub mod Multipliers
+pub mod Lent

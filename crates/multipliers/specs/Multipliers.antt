@@ -1,5 +1,5 @@
 -- What becomes of a row's multiplier: document 01, "The certificate". Assumes nothing.
-use Rattle.std.specs.Prelude.{Bool, true, false, cond, ◌&&◌, ◌||◌, Float}
+use Rattle.std.specs.Prelude.{Bool, true, false, cond, ◌&&◌, ◌||◌, Option, Some, None, Float}
 use Rattle.std.specs.Float.{inf}
 use Rattle.std.specs.Float.Ieee.{lt, le, eq}
 use Rattle.doubles.specs.Compare.{absolute}
@@ -7,8 +7,6 @@ use Rattle.cdouble.specs.declared.CDouble.{CDouble}
 use Rattle.cdouble.specs.Compensated.{◌⊕◌, negated, normalized, plus_zero, value}
 use Rattle.multipliers.specs.declared.weighing.Multiplier.{Multiplier}
 use Rattle.multipliers.specs.declared.weighing.Multiplier.TheVariants.{Zeroed, Dropped, Kept}
-use Rattle.multipliers.specs.declared.weighing.Spread.{Spread}
-use Rattle.multipliers.specs.declared.weighing.Spread.TheVariants.{Nothing, By}
 
 -- "y is rho, negated if leaving up, then normalized"
 unfoldable pub signed : Bool → CDouble → CDouble
@@ -27,8 +25,8 @@ weighed estimated error y min max =
 
 -- what each of the row's variables in basis gets, times the magnitude of its entry: "(|y| + error)" from a multiplier within its error,
 -- which the Rust leaves out where it is not above 0; "error" from a kept one
-unfoldable pub spreads : Bool → Float → Multiplier → Spread
+unfoldable pub spreads : Bool → Float → Multiplier → Option Float
 spreads estimated error (Zeroed y) =
-    cond (lt plus_zero (absolute (value y) ⊕ error)) (By (absolute (value y) ⊕ error)) Nothing
-spreads estimated error Dropped = Nothing
-spreads estimated error (Kept y) = cond estimated (By error) Nothing
+    cond (lt plus_zero (absolute (value y) ⊕ error)) (Some (absolute (value y) ⊕ error)) None
+spreads estimated error Dropped = None
+spreads estimated error (Kept y) = cond estimated (Some error) None

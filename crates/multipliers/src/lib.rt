@@ -4,4 +4,4 @@
 
 mod weighing;
 
-pub use weighing::{Multiplier, Spread, multiplier_at, spreads};
+pub use weighing::{Multiplier, multiplier_at, spreads};

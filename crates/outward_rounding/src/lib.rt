@@ -5,4 +5,4 @@
 
 mod outward;
 
-pub use outward::{Bounds, product_bounds, sum_down, sum_up};
+pub use outward::{product_bounds, rounded_sum};

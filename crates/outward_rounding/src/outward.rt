@@ -6,14 +6,28 @@ ghost use Rattle.rank_arithmetic.specs.Rank.{at_rank, double, infinity};
 ghost use Rattle.doubles.specs.Directed.{product_down, product_up, round_down, round_up, sum_down, sum_up, with_zero};
 
 use double_bits::is_finite;
-use rank_arithmetic::{rank_difference, rank_product, rank_sum};
+use rank_arithmetic::{Bounds, rank_difference, rank_product, rank_sum};
 use ranked_doubles::{SIGN, negative, positive};
 
-/// A lower and an upper bound.
+/// A finite double by its sign and its rank.
 #[derive(Clone, Copy)]
-pub struct Bounds {
-    pub down: f64,
-    pub up: f64,
+struct Parts {
+    below: bool,
+    rank: u64,
+}
+
+impl Parts {
+    /// Those of `a`.
+    fn of(a: f64) -> Parts
+        requires { T (finite a) }
+        ensures { (result.rank < infinity) × (exact a ≡ signed result.below (at_rank 52 result.rank)) }
+    {
+        let bits = a.to_bits();
+        Parts {
+            below: bits >= SIGN,
+            rank: bits % SIGN,
+        }
+    }
 }
 
 /// The negative double of rank `r`, where a zero is +0.
@@ -24,65 +38,73 @@ fn minus(r: u64) -> f64
     if r == 0 { positive(0) } else { negative(r) }
 }
 
-/// The bounds of the ranks `d` and `u`, or, in the mirror, their negatives the other way round.
-fn spread(below: bool, d: u64, u: u64) -> Bounds
-    requires { (d ≤ infinity) × (u ≤ infinity) }
-    ensures { (result.down ≡ cond below (with_zero false (double true u)) (double false d)) × (result.up ≡ cond below (with_zero false (double true d)) (double false u)) }
+/// The bounds of the ranks `r`, or, in the mirror, their negatives the other way round.
+fn spread(below: bool, r: Bounds<u64>) -> Bounds<f64>
+    requires { (r.down ≤ infinity) × (r.up ≤ infinity) }
+    ensures { (result.down ≡ cond below (with_zero false (double true r.up)) (double false r.down)) × (result.up ≡ cond below (with_zero false (double true r.down)) (double false r.up)) }
 {
     if below {
-        let x = minus(u);
-        let y = minus(d);
-        Bounds { down: x, up: y }
+        Bounds {
+            down: minus(r.up),
+            up: minus(r.down),
+        }
     } else {
-        let x = positive(d);
-        let y = positive(u);
-        Bounds { down: x, up: y }
+        Bounds {
+            down: positive(r.down),
+            up: positive(r.up),
+        }
     }
 }
 
-/// The bounds of the sum of two doubles by their signs and ranks, the second no larger than the first.
-fn signed_sum(s: bool, r: u64, n: bool, t: u64) -> Bounds
-    requires { (t ≤ r) × (r < infinity) }
-    ensures { (result.down ≡ round_down 0 (signed s (at_rank 52 r) +ℤ signed n (at_rank 52 t))) × (result.up ≡ round_up 0 (signed s (at_rank 52 r) +ℤ signed n (at_rank 52 t))) }
+/// +0 on both sides.
+fn zero() -> Bounds<f64>
+    ensures { (result.down ≡ double false 0) × (result.up ≡ double false 0) }
 {
+    Bounds { down: 0.0, up: 0.0 }
+}
+
+/// The bounds of the sum of two finite doubles by their parts, the second no larger than the first.
+fn signed_sum(first: Parts, second: Parts) -> Bounds<f64>
+    requires { (second.rank ≤ first.rank) × (first.rank < infinity) }
+    ensures { let z = signed first.below (at_rank 52 first.rank) +ℤ signed second.below (at_rank 52 second.rank) in (result.down ≡ round_down 0 z) × (result.up ≡ round_up 0 z) }
+{
+    let r = first.rank;
+    let t = second.rank;
     if t == 0 {
-        spread(s, r, r)
-    } else if s == n {
-        let p = rank_sum(r, t);
-        let d = p.down;
-        let u = p.up;
-        spread(s, d, u)
+        spread(first.below, Bounds { down: r, up: r })
+    } else if first.below == second.below {
+        spread(first.below, rank_sum(r, t))
     } else if t < r {
-        let p = rank_difference(r, t);
-        let d = p.down;
-        let u = p.up;
-        spread(s, d, u)
+        spread(first.below, rank_difference(r, t))
     } else {
-        spread(false, 0, 0)
+        zero()
     }
 }
 
 /// The bounds of `a + b`.
-fn sum_bounds(a: f64, b: f64) -> Bounds
+fn sum_bounds(a: f64, b: f64) -> Bounds<f64>
     requires { T (finite a) × T (finite b) }
     ensures { (result.down ≡ round_down 0 (exact a +ℤ exact b)) × (result.up ≡ round_up 0 (exact a +ℤ exact b)) }
 {
-    let x = f64::to_bits(a);
-    let y = f64::to_bits(b);
-    let r = x % SIGN;
-    let t = y % SIGN;
-    let s = x >= SIGN;
-    let n = y >= SIGN;
-    if t <= r {
-        signed_sum(s, r, n, t)
+    let x = Parts::of(a);
+    let y = Parts::of(b);
+    if y.rank <= x.rank {
+        signed_sum(x, y)
     } else {
-        signed_sum(n, t, s, r)
+        signed_sum(y, x)
     }
 }
 
-/// The least double not below `a + b`; an infinite running sum `a` stays.
-pub fn sum_up(a: f64, b: f64) -> f64
-    ensures { result ≡ sum_up a b }
+/// The upper bound (`UP`), or the lower.
+fn end<const UP: bool>(bounds: Bounds<f64>) -> f64
+    ensures { result ≡ cond UP bounds.up bounds.down }
+{
+    if UP { bounds.up } else { bounds.down }
+}
+
+/// The least double not below `a + b` (`UP`), or the greatest not above it; an infinite running sum `a` stays.
+pub fn rounded_sum<const UP: bool>(a: f64, b: f64) -> f64
+    ensures { result ≡ cond UP (sum_up a b) (sum_down a b) }
 {
     if !is_finite(a) {
         return a;
@@ -90,55 +112,32 @@ pub fn sum_up(a: f64, b: f64) -> f64
     if !is_finite(b) {
         return b;
     }
-    let s = sum_bounds(a, b);
-    s.up
-}
-
-/// The greatest double not above `a + b`; an infinite running sum `a` stays.
-pub fn sum_down(a: f64, b: f64) -> f64
-    ensures { result ≡ sum_down a b }
-{
-    if !is_finite(a) {
-        return a;
-    }
-    if !is_finite(b) {
-        return b;
-    }
-    let s = sum_bounds(a, b);
-    s.down
+    end::<UP>(sum_bounds(a, b))
 }
 
 /// The bounds of `a b` for finite factors.
-fn finite_product(a: f64, b: f64) -> Bounds
+fn finite_product(a: f64, b: f64) -> Bounds<f64>
     requires { T (finite a) × T (finite b) }
     ensures { (result.down ≡ round_down 1074 (exact a *ℤ exact b)) × (result.up ≡ round_up 1074 (exact a *ℤ exact b)) }
 {
-    let x = f64::to_bits(a);
-    let y = f64::to_bits(b);
-    let r = x % SIGN;
-    let t = y % SIGN;
-    if r == 0 {
-        return spread(false, 0, 0);
+    let x = Parts::of(a);
+    let y = Parts::of(b);
+    if x.rank == 0 {
+        return zero();
     }
-    if t == 0 {
-        return spread(false, 0, 0);
+    if y.rank == 0 {
+        return zero();
     }
-    let p = rank_product(r, t);
-    let d = p.down;
-    let u = p.up;
-    spread((x >= SIGN) != (y >= SIGN), d, u)
+    spread(x.below != y.below, rank_product(x.rank, y.rank))
 }
 
 /// The greatest double not above `a b` and the least not below it; where a factor is not finite both are IEEE 754's product.
-pub fn product_bounds(a: f64, b: f64) -> Bounds
+pub fn product_bounds(a: f64, b: f64) -> Bounds<f64>
     ensures { (result.down ≡ product_down a b) × (result.up ≡ product_up a b) }
 {
+    if is_finite(a) && is_finite(b) {
+        return finite_product(a, b);
+    }
     let p = a * b;
-    if !is_finite(a) {
-        return Bounds { down: p, up: p };
-    }
-    if !is_finite(b) {
-        return Bounds { down: p, up: p };
-    }
-    finite_product(a, b)
+    Bounds { down: p, up: p }
 }

@@ -1,18 +1,14 @@
--- What the functions ask of a sheet, on an accepted one, and the answer from what they gave. Assumes nothing.
+-- What the functions ask of a sheet, on an accepted one, and its gap from what they gave. Assumes nothing.
 use native.Mathlib.Omega.{arith}
-use mathlib.Core.Path.{◌≡◌, refl, ap, sym, ◌∙◌}
+use mathlib.Core.Path.{◌≡◌, ap, sym, ◌∙◌}
 use mathlib.Core.Bool.{Bool}
-use mathlib.Core.List.{[]}
 use Prim.Native.Nat.{ℕ, ◌+◌, ◌<◌, ◌≤◌}
-use borrow.Author.Tests.{eq-eqb, ne_eqb}
 use lib.ListN.{length}
 use lib.Ieee.{Float}
-use Rattle.cdouble.specs.Compensated.{plus_zero}
-use Rattle.cdouble.proofs.Contracts.{when_true, when_false}
 use Rattle.questions.specs.Limits.{most_rows, most_structurals}
 use Rattle.questions.specs.Flags.{is_set}
 use Rattle.sheet.specs.Sheet.{Sheet, variables}
-use Rattle.sheet_answers.specs.Answers.{Accepted, first_no}
+use Rattle.sheet_answers.specs.Answers.{Accepted}
 use Rattle.sheet_answers.proofs.Accepted.{all_yes, sizes_hold}
 use Rattle.sheet_answers.proofs.Consequences.{by_row, by_variable}
 use Rattle.variable_bounds.specs.Model.{model_of}
@@ -22,15 +18,13 @@ use Rattle.certificate.specs.System.{System, system, system_of, multiplier_at}
 use Rattle.certificate.proofs.Readable.{row_readable}
 use Rattle.gaps.specs.Rows.{rows_in, ranges_in}
 use Rattle.gaps.specs.Steps.{outward_gap, outward_of}
-use Rattle.outward_sheet.specs.declared.answer.Outward.{Outward}
 use Rattle.coefficients.specs.Reads.{RowRead}
 use Rattle.outward_sheet.specs.Reads.{OutwardFits}
-use Rattle.outward_sheet.specs.Answer.{answered, outward_answer}
 
--- what is read of the rows, whichever multipliers' errors are bounded: the basis enters nowhere
+-- what is read of the rows, whether or not the multipliers' errors are bounded
 abbrev pub rows_with : Sheet → Bool → System
 rows_with s estimated =
-    system s.structurals estimated (is_set s.leaving_up) s.starts s.columns s.entries s.right_sides s.mins s.maxs [] s.rho_hi s.rho_lo s.second
+    system s.structurals estimated (is_set s.leaving_up) s.starts s.columns s.entries s.right_sides s.mins s.maxs s.basic s.rho_hi s.rho_lo s.second
 
 module _ (s : Sheet) (accepted : Accepted s) where
   row_read : (estimated : Bool) (r : ℕ) → r < s.rows → RowRead (rows_with s estimated) r (variables s)
@@ -69,17 +63,3 @@ gap_of s {estimated} bounds leaves e =
     e
     ∙ ap (λ (v : ℕ). outward_gap (multiplier_at (rows_with s estimated)) (rows_in (rows_with s estimated) s.rows (variables s)) (ranges_in (model_of s) v)) leaves
     ∙ ap (λ (b : Bool). outward_gap (multiplier_at (rows_with s b)) (rows_in (rows_with s b) s.rows (variables s)) (ranges_in (model_of s) (leaving_variable s))) bounds
-
--- ---- the answer, by the number of the first question whose answer is no
-module _ (s : Sheet) {n : ℕ} (number : n ≡ first_no s) where
-  pub accepts : n ≡ 0 → Accepted s
-  accepts none = sym number ∙ none
-
-  pub answer_full : {gap : Float} → n ≡ 0 → gap ≡ outward_of s → answered 0 gap ≡ outward_answer s
-  unfolding outward_answer
-  answer_full none e = when_true (answered (first_no s) plus_zero) (ap (answered 0) e) (eq-eqb (first_no s) 0 (accepts none))
-
-  pub answer-refused : (n ≡ 0 → ⊥) → answered n plus_zero ≡ outward_answer s
-  unfolding outward_answer
-  answer-refused some =
-      when_false (answered 0 (outward_of s)) (ap (λ (k : ℕ). answered k plus_zero) number) (ne_eqb (first_no s) 0 (λ none. some (number ∙ none)))

@@ -1,4 +1,4 @@
--- An outward gap above 0 rules out every point of the sheet, as the contract of `outward_of` cites it. Assumes nothing.
+-- An outward gap above 0 rules out every point of the sheet, as the contracts of `gap_of` and `outward_of` cite it. Assumes nothing.
 use mathlib.Core.Path.{◌≡◌, subst}
 use lib.Dec.{T}
 use lib.Ieee.{Float, lt}
@@ -13,8 +13,3 @@ use Rattle.gaps.proofs.ThirdDemand.{rules_out}
 pub no_point : (s : Sheet) → Accepted s → Doubles s → {gap : Float} → gap ≡ outward_of s → T (lt plus_zero gap) → NoPoint (rows_of s) (ranges_of s)
 unfolding outward_of
 no_point s accepted doubles e above = rules_out s accepted doubles (kept_of s) (subst (λ (x : Float). T (lt plus_zero x)) e above)
-
--- the gap of a refusal is not above 0
-pub none_above : {A : Type 0} → T (lt plus_zero plus_zero) → A
-unfolding lt
-none_above t = absurd t

@@ -1,3 +1,2 @@
-pub mod Gap
 pub mod Reads
 pub mod Answer

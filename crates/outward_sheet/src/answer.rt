@@ -1,8 +1,10 @@
 //! The questions, and the outward gap of a sheet that passes them.
-ghost use Rattle.std.specs.Prelude.{◌≡◌, T};
+ghost use Rattle.std.specs.Prelude.{◌≡◌, IfOk, T};
 ghost use Rattle.std.specs.Float.Ieee.{lt};
 ghost use Rattle.cdouble.specs.Compensated.{plus_zero};
-ghost use Rattle.sheet.specs.Sheet.{sheet};
+ghost use Rattle.refusal_numbers.specs.Numbers.{numbered};
+ghost use Rattle.sheet.specs.Lent.{lent_sheet};
+ghost use Rattle.sheet.specs.Sheet.{AllDoubles, Doubles};
 ghost use Rattle.sheet_answers.specs.Answers.{Accepted};
 ghost use Rattle.gaps.specs.Rows.{ranges_of, rows_of};
 ghost use Rattle.gaps.specs.Steps.{outward_of};
@@ -11,171 +13,52 @@ ghost use Rattle.outward_sheet.specs.Answer.{outward_answer};
 
 use crate::reckoning::outward_gap;
 use refinement_error::error_bounds;
-use refusal_numbers::number_of;
-use sheet::{Outputs, Sizes};
+use refusal_numbers::Refusal;
+use sheet::{Outputs, Sheet};
 use sheet_answers::first_no;
 use variable_kinds::leaving_variable;
 
-/// The number of the first question whose answer is no, or 0 and the outward gap.
-#[derive(Clone, Copy)]
-pub struct Outward {
-    pub refusal: u32,
-    pub gap: f64,
+/// The numbers of a lent slice are doubles, as its type says. A proof learns it by this call, which does nothing.
+fn slice_of_doubles(xs: &[f64])
+    ensures { AllDoubles xs.now }
+{}
+
+/// So are those of the sheet.
+fn sheet_of_doubles(s: &Sheet, outputs: Outputs)
+    ensures { Doubles (lent_sheet s.now outputs) }
+{
+    slice_of_doubles(s.entries);
+    slice_of_doubles(s.right_sides);
+    slice_of_doubles(s.scales);
+    slice_of_doubles(s.mins);
+    slice_of_doubles(s.maxs);
+    slice_of_doubles(s.low_tolerances);
+    slice_of_doubles(s.high_tolerances);
+    slice_of_doubles(s.values);
+    slice_of_doubles(s.rho_hi);
+    slice_of_doubles(s.rho_lo);
+    slice_of_doubles(s.second);
+    slice_of_doubles(&[s.feasibility]);
 }
 
 /// The outward gap of an accepted sheet.
-pub fn gap_of(
-    sizes: Sizes,
-    feasibility: f64,
-    checked: u8,
-    leaving_row: usize,
-    leaving_up: u8,
-    outputs: Outputs,
-    starts: &[usize],
-    columns: &[usize],
-    entries: &[f64],
-    right_sides: &[f64],
-    scales: &[f64],
-    integer: &[u8],
-    mins: &[f64],
-    maxs: &[f64],
-    low_tolerances: &[f64],
-    high_tolerances: &[f64],
-    basic: &[u8],
-    places: &[usize],
-    values: &[f64],
-    widened_vars: &[usize],
-    widened_ups: &[u8],
-    rho_hi: &[f64],
-    rho_lo: &[f64],
-    second: &[f64],
-) -> f64
-    requires { Accepted (sheet sizes feasibility checked leaving_row leaving_up outputs starts.now columns.now entries.now right_sides.now scales.now integer.now mins.now maxs.now low_tolerances.now high_tolerances.now basic.now places.now values.now widened_vars.now widened_ups.now rho_hi.now rho_lo.now second.now) }
-    ensures { result ≡ outward_of (sheet sizes feasibility checked leaving_row leaving_up outputs starts.now columns.now entries.now right_sides.now scales.now integer.now mins.now maxs.now low_tolerances.now high_tolerances.now basic.now places.now values.now widened_vars.now widened_ups.now rho_hi.now rho_lo.now second.now) }
+pub fn gap_of(s: &Sheet, outputs: Outputs) -> f64
+    requires { Accepted (lent_sheet s.now outputs) }
+    ensures value { result ≡ outward_of (lent_sheet s.now outputs) }
+    ensures no_point { T (lt plus_zero result) → NoPoint (rows_of (lent_sheet s.now outputs)) (ranges_of (lent_sheet s.now outputs)) }
 {
-    let rows = sizes.rows;
-    let structurals = sizes.structurals;
-    let count = structurals + rows;
-    let estimated = error_bounds(checked, rho_hi, rho_lo, second);
-    let leaving = leaving_variable(basic, places, leaving_row);
-    outward_gap(
-        rows,
-        structurals,
-        count,
-        estimated,
-        leaving_up != 0,
-        feasibility,
-        leaving,
-        starts,
-        columns,
-        entries,
-        right_sides,
-        scales,
-        integer,
-        mins,
-        maxs,
-        low_tolerances,
-        high_tolerances,
-        values,
-        widened_vars,
-        widened_ups,
-        rho_hi,
-        rho_lo,
-        second,
-    )
+    sheet_of_doubles(s, outputs);
+    let count = s.structurals + s.rows;
+    let estimated = error_bounds(s);
+    let leaving = leaving_variable(s.basic, s.places, s.leaving_row);
+    outward_gap(s, count, estimated, leaving)
 }
 
 /// The questions, and the outward gap of a sheet that passes them.
-pub fn outward_of(
-    sizes: Sizes,
-    feasibility: f64,
-    checked: u8,
-    leaving_row: usize,
-    leaving_up: u8,
-    outputs: Outputs,
-    starts: &[usize],
-    columns: &[usize],
-    entries: &[f64],
-    right_sides: &[f64],
-    scales: &[f64],
-    integer: &[u8],
-    mins: &[f64],
-    maxs: &[f64],
-    low_tolerances: &[f64],
-    high_tolerances: &[f64],
-    basic: &[u8],
-    places: &[usize],
-    values: &[f64],
-    widened_vars: &[usize],
-    widened_ups: &[u8],
-    rho_hi: &[f64],
-    rho_lo: &[f64],
-    second: &[f64],
-) -> Outward
-    ensures value { result ≡ outward_answer (sheet sizes feasibility checked leaving_row leaving_up outputs starts.now columns.now entries.now right_sides.now scales.now integer.now mins.now maxs.now low_tolerances.now high_tolerances.now basic.now places.now values.now widened_vars.now widened_ups.now rho_hi.now rho_lo.now second.now) }
-    ensures no_point { T (lt plus_zero result.gap) → NoPoint (rows_of (sheet sizes feasibility checked leaving_row leaving_up outputs starts.now columns.now entries.now right_sides.now scales.now integer.now mins.now maxs.now low_tolerances.now high_tolerances.now basic.now places.now values.now widened_vars.now widened_ups.now rho_hi.now rho_lo.now second.now)) (ranges_of (sheet sizes feasibility checked leaving_row leaving_up outputs starts.now columns.now entries.now right_sides.now scales.now integer.now mins.now maxs.now low_tolerances.now high_tolerances.now basic.now places.now values.now widened_vars.now widened_ups.now rho_hi.now rho_lo.now second.now)) }
+pub fn outward_of(s: &Sheet, outputs: Outputs) -> Result<f64, Refusal>
+    ensures value { numbered result ≡ outward_answer (lent_sheet s.now outputs) }
+    ensures no_point { IfOk result (λ gap. T (lt plus_zero gap) → NoPoint (rows_of (lent_sheet s.now outputs)) (ranges_of (lent_sheet s.now outputs))) }
 {
-    let number = number_of(first_no(
-        sizes,
-        feasibility,
-        checked,
-        leaving_row,
-        leaving_up,
-        outputs,
-        starts,
-        columns,
-        entries,
-        right_sides,
-        scales,
-        integer,
-        mins,
-        maxs,
-        low_tolerances,
-        high_tolerances,
-        basic,
-        places,
-        values,
-        widened_vars,
-        widened_ups,
-        rho_hi,
-        rho_lo,
-        second,
-    ));
-    if number == 0 {
-        let gap = gap_of(
-            sizes,
-            feasibility,
-            checked,
-            leaving_row,
-            leaving_up,
-            outputs,
-            starts,
-            columns,
-            entries,
-            right_sides,
-            scales,
-            integer,
-            mins,
-            maxs,
-            low_tolerances,
-            high_tolerances,
-            basic,
-            places,
-            values,
-            widened_vars,
-            widened_ups,
-            rho_hi,
-            rho_lo,
-            second,
-        );
-        Outward {
-            refusal: 0,
-            gap: gap,
-        }
-    } else {
-        Outward {
-            refusal: number,
-            gap: 0.0,
-        }
-    }
+    first_no(s, outputs)?;
+    Ok(gap_of(s, outputs))
 }

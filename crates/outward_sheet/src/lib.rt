@@ -6,5 +6,5 @@
 mod answer;
 mod reckoning;
 
-pub use answer::{Outward, gap_of, outward_of};
+pub use answer::{gap_of, outward_of};
 pub use reckoning::outward_gap;

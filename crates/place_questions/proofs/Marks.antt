@@ -5,7 +5,7 @@ use mathlib.Core.Path.{◌≡◌, refl, ap, sym, ◌∙◌}
 use mathlib.Core.Bool.{Bool, true, false, not, ◌&&◌, ◌||◌, beq, and-true, and-false, or-true, or-false}
 use mathlib.Core.List.{List}
 use Prim.Native.Nat.{ℕ, ◌+◌, ◌*◌, ◌<◌, ◌≤◌}
-use borrow.Author.Tests.{eqb-true, eqb-false, ltb-true, not-true}
+use borrow.Author.Tests.{eqb-true, eqb-false, le-ltb, lt-ltb}
 use lib.Dec.{eqb, ltb}
 use lib.ListN.{length, get_or, set, length-set}
 use lib.Seq.{get_or-set_same, get_or-set_other}
@@ -58,32 +58,32 @@ module _ {count : ℕ} {vars ups : List ℕ} {marks₀ : List Bool} (asked : Unm
     side = is_set (get_or ups k 0)
 
     -- the item names no variable
-    pub stop_beyond : k < length vars → not (ltb item count) ≡ true → false ≡ widened_fine count vars ups
+    pub stop_beyond : k < length vars → count ≤ item → false ≡ widened_fine count vars ups
     unfolding widened_fine
-    stop_beyond less beyond = all.stop turn.passed {r = ltb item count && not (widened_among vars ups k item side)} less (rw (not-true (ltb item count) beyond) refl) refl
+    stop_beyond less beyond = all.stop turn.passed {r = ltb item count && not (widened_among vars ups k item side)} less (rw (le-ltb item count beyond) refl) refl
 
     -- there is a mark for an item that names a variable
-    pub has_mark : ltb item count ≡ true → mark_of item side < length marks
+    has_mark : item < count → mark_of item side < length marks
     has_mark below = go side
       where
         go : (b : Bool) → mark_of item b < length marks
-        go true = omega (arith, ltb-true item count below, asked.room, turn.long)
-        go false = omega (arith, ltb-true item count below, asked.room, turn.long)
+        go true = omega (arith, below, asked.room, turn.long)
+        go false = omega (arith, below, asked.room, turn.long)
 
     -- its mark is set: it was met before
-    pub stop_twice : {m : ℕ} → k < length vars → ltb item count ≡ true → m ≡ mark_of item side → get_or marks m false ≡ true → false ≡ widened_fine count vars ups
+    pub stop_twice : {m : ℕ} → k < length vars → item < count → m ≡ mark_of item side → get_or marks m false ≡ true → false ≡ widened_fine count vars ups
     unfolding widened_fine
     stop_twice less below at met =
         let among : widened_among vars ups k item side ≡ true = sym (turn.so_far item side) ∙ ap (λ (i : ℕ). get_or marks i false) (sym at) ∙ met in
-        all.stop turn.passed {r = ltb item count && not (widened_among vars ups k item side)} less (rw (below, among) refl) refl
+        all.stop turn.passed {r = ltb item count && not (widened_among vars ups k item side)} less (rw (lt-ltb item count below, among) refl) refl
 
     -- it is not: it is marked now
-    pub next : {m : ℕ} → k < length vars → ltb item count ≡ true → m ≡ mark_of item side → get_or marks m false ≡ false → Marked count vars ups (length marks₀) (k + 1) (set marks m true)
+    pub next : {m : ℕ} → k < length vars → item < count → m ≡ mark_of item side → get_or marks m false ≡ false → Marked count vars ups (length marks₀) (k + 1) (set marks m true)
     unfolding widened_among
     next {m} less below at new =
         let among : widened_among vars ups k item side ≡ false = sym (turn.so_far item side) ∙ ap (λ (i : ℕ). get_or marks i false) (sym at) ∙ new in
         record {
-          passed = all.next turn.passed {r = ltb item count && not (widened_among vars ups k item side)} less (rw (below, among) refl) refl;
+          passed = all.next turn.passed {r = ltb item count && not (widened_among vars ups k item side)} less (rw (lt-ltb item count below, among) refl) refl;
           long = length-set marks m true ∙ turn.long;
           so_far =
               λ w up.

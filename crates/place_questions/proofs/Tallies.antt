@@ -1,6 +1,6 @@
 -- The pass that counts the variables at each place, on lists: what the counts come to. Assumes nothing.
 use native.Mathlib.Omega.{arith}
-use native.Mathlib.Nat.{add-zero, zero-add, le_antisymm}
+use native.Mathlib.Nat.{add-zero, zero-add}
 use native.Mathlib.Numerals.{add-one}
 use mathlib.Core.Path.{◌≡◌, refl, ap, sym, ◌∙◌, subst}
 use mathlib.Core.Bool.{Bool, true, false, not, cond, ◌&&◌, ◌||◌, true≢false}
@@ -93,12 +93,6 @@ module _ {rows : ℕ} {basic places counts₀ : List ℕ} (asked : Tally rows ba
     pub next : {after : List ℕ} → v < length basic → after ≡ counted (get_or basic v 0) (get_or places v 0) counts → Counted basic places counts₀ (v + 1) after
     unfolding tallied
     next less e = record { within = omega arith; so_far = rw add-one (e ∙ ap (counted (get_or basic v 0) (get_or places v 0)) turn.so_far) }
-
-    pub keeps_length : length counts ≡ length counts₀
-    keeps_length = ap length turn.so_far ∙ tallied-long basic places v counts₀
-
-    pub done : length basic ≤ v → counts ≡ tallied basic places (length basic) counts₀
-    done end = turn.so_far ∙ ap (λ (n : ℕ). tallied basic places n counts₀) (le_antisymm turn.within end)
 
 -- ---- the counts are 1 where just one variable holds the place
 pub ones : {rows : ℕ} {basic places counts₀ counts : List ℕ} → Tally rows basic places counts₀ → counts ≡ tallied basic places (length basic) counts₀ → all_below rows (one_at counts) ≡ all_below rows (held_once_at basic places)

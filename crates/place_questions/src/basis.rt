@@ -12,14 +12,10 @@ fn places_fine(rows: usize, basic: &[u8], places: &[usize]) -> bool
     requires { length places.now ≡ length basic.now }
     ensures { result ≡ all_below (length basic.now) (place_fine_at rows basic.now places.now) }
 {
-    let mut v = 0;
-    while v < basic.len() {
-        if !((basic[v] == 0) | (places[v] < rows)) {
-            return false;
-        }
-        v += 1;
-    }
-    true
+    basic
+        .iter()
+        .zip(places)
+        .all(|(flag, place)| (*flag == 0) | (*place < rows))
 }
 
 /// Counts one more at the place `p` where the flag is set.
@@ -28,7 +24,7 @@ fn count(flag: u8, p: usize, counts: &mut [usize])
     ensures { counts.new ≡ counted flag p counts.old }
 {
     if flag != 0 {
-        counts[p] = counts[p] + 1;
+        counts[p] += 1;
     }
 }
 
@@ -37,10 +33,8 @@ fn tally(rows: usize, basic: &[u8], places: &[usize], counts: &mut [usize])
     requires { Tally rows basic.now places.now counts.old }
     ensures { counts.new ≡ tallied basic.now places.now (length basic.now) counts.old }
 {
-    let mut v = 0;
-    while v < basic.len() {
-        count(basic[v], places[v], counts);
-        v += 1;
+    for (flag, place) in basic.iter().zip(places) {
+        count(*flag, *place, counts);
     }
 }
 
@@ -49,14 +43,7 @@ fn all_one(rows: usize, counts: &[usize]) -> bool
     requires { rows ≤ length counts.now }
     ensures { result ≡ all_below rows (one_at counts.now) }
 {
-    let mut p = 0;
-    while p < rows {
-        if !(counts[p] == 1) {
-            return false;
-        }
-        p += 1;
-    }
-    true
+    counts[..rows].iter().all(|holders| *holders == 1)
 }
 
 /// Whether each place is held by one variable, counted in `counts`.

@@ -7,4 +7,4 @@ mod basis;
 mod widened;
 
 pub use basis::basis_fine;
-pub use widened::{mark_of, widened_fine};
+pub use widened::{MARKS, mark_of, widened_fine};

@@ -8,7 +8,7 @@ ghost use Rattle.place_questions.specs.Questions.{widened_fine};
 use questions::{MOST_ROWS, MOST_STRUCTURALS};
 
 /// Two marks for each variable, down and up.
-const MARKS: usize = 2 * (MOST_STRUCTURALS + MOST_ROWS);
+pub const MARKS: usize = 2 * (MOST_STRUCTURALS + MOST_ROWS);
 
 /// The place of the mark of a variable's side.
 pub fn mark_of(v: usize, up: u8) -> usize
@@ -23,18 +23,15 @@ fn distinct(count: usize, vars: &[usize], ups: &[u8], marks: &mut [bool]) -> boo
     requires { Unmarked count vars.now ups.now marks.old }
     ensures { result ≡ widened_fine count vars.now ups.now }
 {
-    let mut k = 0;
-    while k < vars.len() {
-        let v = vars[k];
-        if !(v < count) {
+    for (v, up) in vars.iter().zip(ups) {
+        if *v >= count {
             return false;
         }
-        let at = mark_of(v, ups[k]);
+        let at = mark_of(*v, *up);
         if marks[at] {
             return false;
         }
         marks[at] = true;
-        k += 1;
     }
     true
 }

@@ -6,8 +6,15 @@ use mathlib.Core.Path.{◌≡◌, refl, ap, sym, ◌∙◌}
 use mathlib.Core.Logic.{inl, inr}
 use mathlib.Core.List.{List, [], ◌∷◌}
 use mathlib.Core.Bool.{Bool, true, false, not, ◌&&◌, and-false}
-use Prim.Native.Nat.{ℕ, zero, suc, ◌+◌, ◌<◌, ◌≤◌}
+use Prim.Native.Nat.{ℕ, zero, suc, ◌+◌, ◌-◌, ◌<◌, ◌≤◌}
 use borrow.Author.Tests.{not-true, not-false}
+use lib.ListN.{length, get_or, take}
+use lib.Seq.{take_all}
+use Rattle.std.specs.List.{list_all, zip, range_with_len, IsAllAdjacentAnswer}
+use Rattle.std.proofs.Common.{zero-add}
+use Rattle.std.proofs.lemmas.List.FromFn.{length-range_with_len, get_or-range_with_len}
+use Rattle.std.proofs.lemmas.List.Folds.{list_all_more}
+use Rattle.std.proofs.lemmas.Slice.Zip.{length-zip, get_or-zip}
 use Rattle.exact.proofs.Naturals.{le_or_lt}
 use Rattle.questions.specs.Places.{all_below}
 
@@ -67,6 +74,38 @@ pub all_same : (f g : ℕ → Bool) (n : ℕ) → ((k : ℕ) → k < n → f k �
 unfolding all_below
 all_same f g zero each = refl
 all_same f g (suc n) each = rw (all_same f g n (λ k less. each k (omega arith)), each n (omega arith)) refl
+
+-- ---- a test of each item is one at each place
+module _ {A : Type 0} (p : A → Bool) (d : A) (xs : List A) where
+  pub all_front : (n : ℕ) → n ≤ length xs → list_all p (take n xs) ≡ all_below n (λ k. p (get_or xs k d))
+  unfolding all_below
+  all_front zero within = refl
+  all_front (suc n) within = rw (← (add-one n), list_all_more p xs n d (omega arith), all_front n (omega arith)) refl
+
+  pub all_places : list_all p xs ≡ all_below (length xs) (λ k. p (get_or xs k d))
+  all_places = ap (list_all p) (sym (take_all (length xs) xs (omega arith))) ∙ all_front (length xs) (omega arith)
+
+-- and of two lists of one length
+pub all_pairs : {A B : Type 0} (p : A → B → Bool) (d : A) (e : B) (xs : List A) (ys : List B) → length ys ≡ length xs
+    → list_all (λ (q : A × B). p q.0 q.1) (zip xs ys) ≡ all_below (length xs) (λ k. p (get_or xs k d) (get_or ys k e))
+all_pairs {A} {B} p d e xs ys same =
+    let long : length (zip xs ys) ≡ length xs = omega (arith, length-zip xs ys) in
+    all_places (λ (q : A × B). p q.0 q.1) (d, e) (zip xs ys)
+    ∙ ap (λ (n : ℕ). all_below n (λ k. p (get_or (zip xs ys) k (d, e)).0 (get_or (zip xs ys) k (d, e)).1)) long
+    ∙ all_same _ _ (length xs) (λ k less. ap (λ (q : A × B). p q.0 q.1) (get_or-zip xs ys k (d, e) less (omega arith)))
+
+-- and of the numbers below n
+pub all_range : (test : ℕ → Bool) (n : ℕ) → list_all test (range_with_len 0 n) ≡ all_below n test
+all_range test n =
+    all_places test 0 (range_with_len 0 n)
+    ∙ ap (λ (m : ℕ). all_below m (λ k. test (get_or (range_with_len 0 n) k 0))) (length-range_with_len 0 n)
+    ∙ all_same _ _ n (λ k less. ap test (get_or-range_with_len 0 n k 0 less ∙ zero-add k))
+
+-- of an item and the next
+pub all_neighbours : {A : Type 0} (test : A → A → Bool) (d : A) (xs : List A) (r : Bool) → IsAllAdjacentAnswer (λ x y b. b ≡ test x y) xs r
+    → r ≡ all_below (length xs - 1) (λ k. test (get_or xs k d) (get_or xs (k + 1) d))
+all_neighbours test d xs true h = sym (all_of _ (length xs - 1) (λ k less. sym (h k d (omega arith))))
+all_neighbours test d xs false h = sym (all_fails _ h.0 (length xs - 1) (omega (arith, h.1)) (sym (h.2 d)))
 
 -- ---- the loop: the places before k have passed
 module _ (test : ℕ → Bool) (n : ℕ) where

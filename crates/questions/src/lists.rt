@@ -5,63 +5,32 @@ ghost use Rattle.questions.specs.Questions.{all_finite, all_plain, bounds_fine, 
 
 use double_bits::is_finite;
 
-/// The least pattern with the sign set, that of -0.
-const SIGN: u64 = 0x8000_0000_0000_0000;
-
-/// The pattern of +infinity.
-const INFINITY: u64 = 0x7FF0_0000_0000_0000;
-
 /// Whether every number is finite.
 pub fn all_finite(xs: &[f64]) -> bool
     ensures { result ≡ all_finite xs.now }
 {
-    let mut k = 0;
-    while k < xs.len() {
-        if !is_finite(xs[k]) {
-            return false;
-        }
-        k += 1;
-    }
-    true
+    xs.iter().all(|x| is_finite(*x))
 }
 
 /// Whether `x` is finite with its sign bit clear.
 fn is_plain(x: f64) -> bool
     ensures { result ≡ plain x }
 {
-    if is_finite(x) {
-        f64::to_bits(x) < SIGN
-    } else {
-        false
-    }
+    is_finite(x) && x.is_sign_positive()
 }
 
 /// Whether every number is.
 fn all_plain(xs: &[f64]) -> bool
     ensures { result ≡ all_plain xs.now }
 {
-    let mut k = 0;
-    while k < xs.len() {
-        if !is_plain(xs[k]) {
-            return false;
-        }
-        k += 1;
-    }
-    true
+    xs.iter().all(|x| is_plain(*x))
 }
 
 /// Whether `x` times every number is finite.
 fn products_finite(x: f64, ys: &[f64]) -> bool
     ensures { result ≡ all_below (length ys.now) (product_finite_at x ys.now) }
 {
-    let mut k = 0;
-    while k < ys.len() {
-        if !is_finite(x * ys[k]) {
-            return false;
-        }
-        k += 1;
-    }
-    true
+    ys.iter().all(|y| is_finite(x * *y))
 }
 
 /// The eighth question.
@@ -79,8 +48,7 @@ pub fn tolerances_fine(feasibility: f64, scales: &[f64], low: &[f64], high: &[f6
 fn range_fine(min: f64, max: f64) -> bool
     ensures { result ≡ range_fine min max }
 {
-    let infinity = f64::from_bits(INFINITY);
-    (min <= max) & (min != infinity) & (max != -infinity)
+    (min <= max) & (min != f64::INFINITY) & (max != f64::NEG_INFINITY)
 }
 
 /// The seventh question.
@@ -88,14 +56,9 @@ pub fn bounds_fine(mins: &[f64], maxs: &[f64]) -> bool
     requires { length maxs.now ≡ length mins.now }
     ensures { result ≡ bounds_fine mins.now maxs.now }
 {
-    let mut v = 0;
-    while v < mins.len() {
-        if !range_fine(mins[v], maxs[v]) {
-            return false;
-        }
-        v += 1;
-    }
-    true
+    mins.iter()
+        .zip(maxs)
+        .all(|(min, max)| range_fine(*min, *max))
 }
 
 /// The twelfth question.

@@ -1,5 +1,5 @@
 pub mod Grid
-pub mod TwoWords
+pub mod Widths
 pub mod Shift
 pub mod WideRanks
 pub mod RankFields

@@ -1,14 +1,14 @@
 -- Sums and differences of two ranks: what `rank_sum` and `rank_difference` compute. Assumes nothing.
 use mathlib.Core.Path.{◌≡◌, sym, ap, ap₂, ◌∙◌}
+use mathlib.Core.Bool.{true}
 use mathlib.Core.Logic.{inl, inr}
 use Prim.Native.Nat.{ℕ, suc, ◌+◌, ◌-◌, ◌*◌, ◌%◌, ◌^◌, ◌≤◌, ◌<◌, zero-le}
-use native.Mathlib.Nat.{le_of_eq, lt_of_lt_of_le, lt_of_le_of_lt, lt_of_mul-lt-mul_right, mul_assoc, add-mul, one-mul, mod-eq_of_lt, sub-add_cancel}
+use native.Mathlib.Nat.{le_of_eq, lt_of_lt_of_le, lt_of_le_of_lt, lt_of_mul-lt-mul_right, mul_assoc, add-mul, mod-eq_of_lt, sub-add_cancel}
 use native.Mathlib.Omega.{arith}
 use lib.Pow.{pow-add, pow_mono, shl_lt}
 use Rattle.rank_arithmetic.specs.Rank.{at_rank, rank_down, rank_up, infinity}
 use Rattle.exact.proofs.Naturals.{le_or_lt}
 use Rattle.rank_arithmetic.proofs.Grid.{exponent, at_rank-lt, at_rank_gap, rank_down_iff, rank_up_iff}
-use Rattle.rank_arithmetic.proofs.TwoWords.{joined}
 use Rattle.rank_arithmetic.proofs.WideRanks.{RankBounds, same_bounds, Capped, capped_bounds, Rankable}
 use Rattle.rank_arithmetic.proofs.RankFields.{significand_lt, significand_pos, units_is, exponent_mono}
 
@@ -43,64 +43,60 @@ module _ {r t j k : ℕ} (o : Operands r t j k) where
         let less = shl_lt 53 k (significand_lt t k o.second_exponent) in
         lt_of_lt_of_le (lt_of_le_of_lt (le_of_eq (sym (units_is t k o.second_exponent))) less) (pow_mono (omega (arith, o.first_exponent)))
 
-    pub far-sum : {d u : ℕ} → Capped r (r + 1) d u → RankBounds 0 (at_rank 52 r + at_rank 52 t) d u
+    pub far-sum : {d u : ℕ} → Capped r true d u → RankBounds 0 (at_rank 52 r + at_rank 52 t) d u
     far-sum =
         let below : at_rank 52 t < 2 ^ exponent 52 r = lt_of_lt_of_le far (pow_mono (omega arith)) in
         let gap = at_rank_gap 52 r in
         let up = rank_up_between r (at_rank 52 r + at_rank 52 t) (omega (arith, units_pos)) (omega arith) in
-        capped_bounds 0 (at_rank 52 r + at_rank 52 t) (rank_down_between r (at_rank 52 r + at_rank 52 t) (omega arith) (omega arith)) (omega (arith, up))
+        capped_bounds 0 (at_rank 52 r + at_rank 52 t) true (rank_down_between r (at_rank 52 r + at_rank 52 t) (omega arith) (omega arith)) (omega (arith, up))
 
-    pub far-difference : t < r → {d u : ℕ} → Capped (r - 1) (r - 1 + 1) d u → RankBounds 0 (at_rank 52 r - at_rank 52 t) d u
+    pub far-difference : t < r → {d u : ℕ} → Capped (r - 1) true d u → RankBounds 0 (at_rank 52 r - at_rank 52 t) d u
     far-difference l =
         let next : suc (r - 1) ≡ r = omega arith in
         let same = ap (at_rank 52) next in
         let below : at_rank 52 t < 2 ^ exponent 52 (r - 1) = lt_of_lt_of_le far (pow_mono (omega arith)) in
         let gap = at_rank_gap 52 (r - 1) in
         let up = rank_up_between (r - 1) (at_rank 52 r - at_rank 52 t) (omega arith) (omega arith) in
-        capped_bounds 0 (at_rank 52 r - at_rank 52 t) (rank_down_between (r - 1) (at_rank 52 r - at_rank 52 t) (omega arith) (omega (arith, units_pos))) (omega (arith, up))
+        capped_bounds 0 (at_rank 52 r - at_rank 52 t) true (rank_down_between (r - 1) (at_rank 52 r - at_rank 52 t) (omega arith) (omega (arith, units_pos))) (omega (arith, up))
 
   -- ---- near: both are brought to the exponent k
   pub second_lt : t - k * 2 ^ 52 < 2 ^ 53
   second_lt = significand_lt t k o.second_exponent
 
   module _ (h : j - k ≤ 55) where
-    scale_lt : 2 ^ (j - k) < 2 ^ 56
-    scale_lt = lt_of_le_of_lt (pow_mono h) (omega arith)
+    pub first_lt : (r - j * 2 ^ 52) * 2 ^ (j - k) < 2 ^ 109
+    first_lt = lt_of_lt_of_le (shl_lt 53 (j - k) (significand_lt r j o.first_exponent)) (pow_mono {j = 109} (omega arith))
 
-    scale_is : 1 * 2 ^ (j - k) % 2 ^ 64 ≡ 2 ^ (j - k)
-    scale_is = ap (λ (x : ℕ). x % 2 ^ 64) (one-mul (2 ^ (j - k))) ∙ mod-eq_of_lt (omega (arith, scale_lt))
-
-    pub times_fits : (r - j * 2 ^ 52 < 2 ^ 53) × (1 * 2 ^ (j - k) % 2 ^ 64 < 2 ^ 56)
-    times_fits = (significand_lt r j o.first_exponent, omega (arith, scale_is, scale_lt))
-
--- and of the product in two words that brings r to the exponent k
-pub record Aligned (r t j k hi lo : ℕ) : Type 0 where
+-- and of the significands x of r and y of t
+pub record Aligned (r t j k x y : ℕ) : Type 0 where
   pub operands : Operands r t j k
   pub close : j - k ≤ 55
-  pub product : joined hi lo ≡ (r - j * 2 ^ 52) * (1 * 2 ^ (j - k) % 2 ^ 64)
-  pub high : hi < 2 ^ 46
-  pub low : lo < 2 ^ 64
+  pub first_significand : x ≡ r - j * 2 ^ 52
+  pub second_significand : y ≡ t - k * 2 ^ 52
 
-module _ {r t j k hi lo : ℕ} (a : Aligned r t j k hi lo) where
-  -- the significand of t
-  abbrev second : ℕ
-  second = t - k * 2 ^ 52
+module _ {r t j k x y : ℕ} (a : Aligned r t j k x y) where
+  -- that of r, brought to the exponent k
+  abbrev first : ℕ
+  first = x * 2 ^ (j - k) % 2 ^ 128
 
-  second_fits : second < 2 ^ 64
-  second_fits = omega (arith, second_lt a.operands)
+  second_pos : 0 < y
+  second_pos = omega (arith, a.second_significand, significand_pos t k a.operands.second_exponent a.operands.positive)
 
-  second_pos : 0 < second
-  second_pos = significand_pos t k a.operands.second_exponent a.operands.positive
-
-  second_units : second * 2 ^ k ≡ at_rank 52 t
-  second_units = units_is t k a.operands.second_exponent
+  second_units : y * 2 ^ k ≡ at_rank 52 t
+  second_units = ap (λ (z : ℕ). z * 2 ^ k) a.second_significand ∙ units_is t k a.operands.second_exponent
 
   exponent_le : k ≤ 2046
   exponent_le = omega (arith, exponent_mono r t a.operands.ordered, a.operands.second_exponent, a.operands.finite)
 
-  first_units : joined hi lo * 2 ^ k ≡ at_rank 52 r
+  first_is : first ≡ (r - j * 2 ^ 52) * 2 ^ (j - k)
+  first_is = ap (λ (z : ℕ). z * 2 ^ (j - k) % 2 ^ 128) a.first_significand ∙ mod-eq_of_lt (omega (arith, first_lt a.operands a.close))
+
+  first_fits : first < 2 ^ 109
+  first_fits = omega (arith, first_is, first_lt a.operands a.close)
+
+  first_units : first * 2 ^ k ≡ at_rank 52 r
   first_units =
-      ap (λ (x : ℕ). x * 2 ^ k) (a.product ∙ ap (λ (x : ℕ). (r - j * 2 ^ 52) * x) (scale_is a.operands a.close))
+      ap (λ (x : ℕ). x * 2 ^ k) first_is
       ∙ mul_assoc (r - j * 2 ^ 52) (2 ^ (j - k)) (2 ^ k)
       ∙ ap (λ (x : ℕ). (r - j * 2 ^ 52) * x) (sym (pow-add 2 (j - k) k) ∙ ap (λ (x : ℕ). 2 ^ x) (sub-add_cancel below))
       ∙ units_is r j a.operands.first_exponent
@@ -108,35 +104,21 @@ module _ {r t j k hi lo : ℕ} (a : Aligned r t j k hi lo) where
       below : k ≤ j
       below = omega (arith, exponent_mono r t a.operands.ordered, a.operands.first_exponent, a.operands.second_exponent)
 
-  pub carry_sum : 2 ^ 64 - 1 - second < lo → joined (hi + 1) (lo - (2 ^ 64 - 1 - second) - 1) ≡ joined hi lo + second
-  carry_sum l = omega (arith, second_fits, add-mul hi 1 (2 ^ 64))
+  pub sum_rankable : Rankable (first + y) k 0
+  sum_rankable = (omega (arith, second_pos), omega (arith, first_fits, a.second_significand, second_lt a.operands), exponent_le, zero-le)
 
-  pub plain-sum : joined hi (lo + second) ≡ joined hi lo + second
-  plain-sum = omega arith
-
-  module _ (h l : ℕ) (e : joined h l ≡ joined hi lo + second) where
-    pub sum_rankable : Rankable h l k 0
-    sum_rankable = (omega (arith, e, second_pos), omega (arith, e, a.high, a.low, second_fits), exponent_le, zero-le)
-
-    pub sum_bounds : {d u : ℕ} → RankBounds 0 (joined h l * 2 ^ k) d u → RankBounds 0 (at_rank 52 r + at_rank 52 t) d u
-    sum_bounds = same_bounds 0 (ap (λ (x : ℕ). x * 2 ^ k) e ∙ add-mul (joined hi lo) second (2 ^ k) ∙ ap₂ ◌+◌ first_units second_units)
+  pub sum_bounds : {d u : ℕ} → RankBounds 0 ((first + y) * 2 ^ k) d u → RankBounds 0 (at_rank 52 r + at_rank 52 t) d u
+  sum_bounds = same_bounds 0 (add-mul first y (2 ^ k) ∙ ap₂ ◌+◌ first_units second_units)
 
   module _ (q : t < r) where
-    second_less : second < joined hi lo
+    pub second_less : y < first
     second_less = lt_of_mul-lt-mul_right (2 ^ k) (omega (arith, first_units, second_units, at_rank-lt 52 t r q))
 
-    pub borrow_pos : lo < second → 0 < hi
-    borrow_pos l = omega (arith, second_less)
+    pub difference_rankable : Rankable (first - y) k 0
+    difference_rankable = (omega (arith, second_less), omega (arith, first_fits), exponent_le, zero-le)
 
-    pub borrow_difference : lo < second → joined (hi - 1) (lo + (2 ^ 64 - 1 - second) + 1) + second ≡ joined hi lo
-    borrow_difference l = omega (arith, borrow_pos l, second_fits)
-
-    pub plain-difference : second ≤ lo → joined hi (lo - second) + second ≡ joined hi lo
-    plain-difference l = omega arith
-
-    module _ (h l : ℕ) (e : joined h l + second ≡ joined hi lo) where
-      pub difference_rankable : Rankable h l k 0
-      difference_rankable = (omega (arith, e, second_less), omega (arith, e, a.high, a.low), exponent_le, zero-le)
-
-      pub difference_bounds : {d u : ℕ} → RankBounds 0 (joined h l * 2 ^ k) d u → RankBounds 0 (at_rank 52 r - at_rank 52 t) d u
-      difference_bounds = same_bounds 0 (omega (arith, ap (λ (x : ℕ). x * 2 ^ k) e, add-mul (joined h l) second (2 ^ k), first_units, second_units))
+    pub difference_bounds : {d u : ℕ} → RankBounds 0 ((first - y) * 2 ^ k) d u → RankBounds 0 (at_rank 52 r - at_rank 52 t) d u
+    difference_bounds = same_bounds 0 (omega (arith, ap (λ (x : ℕ). x * 2 ^ k) whole, add-mul (first - y) y (2 ^ k), first_units, second_units))
+      where
+        whole : first - y + y ≡ first
+        whole = omega (arith, second_less)

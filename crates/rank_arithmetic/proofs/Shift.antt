@@ -9,7 +9,7 @@ use lib.Ieee.{size}
 use Rattle.rank_arithmetic.specs.Rank.{at_rank, rank_down, rank_up, rank}
 use Rattle.exact.proofs.Naturals.{le_or_lt}
 use Rattle.rank_arithmetic.proofs.Grid.{at_rank_rank, rank_down_iff, rank_up_iff, at_rank-lt, rank_short}
-use Rattle.rank_arithmetic.proofs.TwoWords.{size_shr, size_shl, some_mul}
+use Rattle.rank_arithmetic.proofs.Widths.{size_shr, size_shl, some_mul}
 
 -- ---- n / 2 ^ l units
 module _ (q l n : ℕ) where

@@ -3,7 +3,7 @@
 
 #![tactic(auto)]
 
+mod digits;
 mod ranks;
-mod words;
 
-pub use ranks::{Ranks, rank_difference, rank_product, rank_sum};
+pub use ranks::{Bounds, INFINITY, rank_difference, rank_product, rank_sum};

@@ -5,13 +5,15 @@
 ghost use Rattle.std.specs.Prelude.{◌≡◌, true, false, ◌≤◌};
 ghost use Rattle.rank_arithmetic.specs.Rank.{double, infinity};
 
-/// The bit pattern of -0, in which only the sign is set.
-pub const SIGN: u64 = 0x8000_0000_0000_0000;
+pub use rank_arithmetic::INFINITY;
 
-/// The bit pattern of +infinity.
-pub const INFINITY: u64 = 0x7ff0_0000_0000_0000;
+/// The bit pattern of -0, in which only the sign is set.
+pub const SIGN: u64 = f64::to_bits(-0.0);
+
+// Kept: `positive` and `negative` as one function, `double::<true>(r)`, would hide the sign that the names say, for two lines less.
 
 /// The double of rank `r` that is not negative.
+#[tactic(auto, using(std::proofs::lemmas::Float::not_nan_f64_bits))]
 pub fn positive(r: u64) -> f64
     requires { r ≤ infinity }
     ensures { result ≡ double false r }
@@ -20,6 +22,7 @@ pub fn positive(r: u64) -> f64
 }
 
 /// Its negative.
+#[tactic(auto, using(std::proofs::lemmas::Float::not_nan_f64_bits))]
 pub fn negative(r: u64) -> f64
     requires { r ≤ infinity }
     ensures { result ≡ double true r }

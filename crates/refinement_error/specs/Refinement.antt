@@ -1,5 +1,5 @@
 -- `refinement_error`: document 01, "The certificate". Assumes nothing.
-use Rattle.std.specs.Prelude.{Bool, false, cond, ◌&&◌, List, ℕ, zero, suc, negsuc, length, get_or, Float}
+use Rattle.std.specs.Prelude.{Bool, false, cond, ◌&&◌, List, ℕ, zero, suc, negsuc, length, get_or, Option, Some, None, Float}
 use Rattle.std.specs.Float.{nan, fin}
 use Rattle.std.specs.Float.Ieee.{le}
 use Rattle.std.specs.Float.Ieee.Scale.{finite}
@@ -7,17 +7,15 @@ use Rattle.doubles.specs.Compare.{absolute, larger}
 use Rattle.cdouble.specs.declared.CDouble.{CDouble}
 use Rattle.cdouble.specs.Compensated.{◌⊗◌, pair, plus_zero, value}
 use Rattle.questions.specs.Flags.{is_set}
-use Rattle.refinement_error.specs.declared.refinement.Norm.{Norm}
-use Rattle.refinement_error.specs.declared.refinement.Norm.TheVariants.{Largest, NotFinite}
 
 -- one number more in `finite_max_norm`: "The largest magnitude of `values`; `None` if one is not finite"
-abbrev pub norm_with : Norm → Float → Norm
-norm_with NotFinite x = NotFinite
-norm_with (Largest norm) x = cond (finite x) (Largest (larger norm (absolute x))) NotFinite
+abbrev pub norm_with : Option Float → Float → Option Float
+norm_with None x = None
+norm_with (Some norm) x = cond (finite x) (Some (larger norm (absolute x))) None
 
 -- `finite_max_norm` of the first n numbers
-unfoldable pub finite_max_norm : (ℕ → Float) → ℕ → Norm
-finite_max_norm number zero = Largest plus_zero
+unfoldable pub finite_max_norm : (ℕ → Float) → ℕ → Option Float
+finite_max_norm number zero = Some plus_zero
 finite_max_norm number (suc n) = norm_with (finite_max_norm number n) (number n)
 
 -- `REFINEMENT_CONVERGED`, 2^-53
@@ -25,10 +23,10 @@ abbrev pub refinement_converged : Float
 refinement_converged = fin false 1 (negsuc 52)
 
 -- whether the second correction's norm is at most that much of the solution's, both finite
-abbrev pub converges : Norm → Norm → Bool
-converges NotFinite second = false
-converges (Largest x) NotFinite = false
-converges (Largest x) (Largest second) = le second (refinement_converged ⊗ x)
+abbrev pub converges : Option Float → Option Float → Bool
+converges None second = false
+converges (Some x) None = false
+converges (Some x) (Some second) = le second (refinement_converged ⊗ x)
 
 -- a row's number in the basis inverse's row
 abbrev pub rho_at : List Float → List Float → ℕ → CDouble

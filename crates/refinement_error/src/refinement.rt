@@ -6,88 +6,65 @@ ghost use Rattle.refinement_error.specs.Refinement.{converges, error_bounds, fin
 
 use cdouble::CDouble;
 use double_bits::{abs, is_finite, max};
-
-/// The largest magnitude of some numbers, unless one is not finite.
-#[derive(Clone, Copy)]
-pub enum Norm {
-    Largest(f64),
-    NotFinite,
-}
+use sheet::Sheet;
 
 /// A correction of at most so much of the solution, in the max norm, is one of a refinement that converged: 2^-53.
 const REFINEMENT_CONVERGED: f64 = 1.110_223_024_625_156_5e-16;
 
-/// One number more.
-fn norm_with(norm: Norm, x: f64) -> Norm
+/// One number more in the largest magnitude, which is `None` if one is not finite.
+fn norm_with(norm: Option<f64>, x: f64) -> Option<f64>
     ensures { result ≡ norm_with norm x }
 {
-    match norm {
-        Norm::NotFinite => Norm::NotFinite,
-        Norm::Largest(largest) => {
-            if is_finite(x) {
-                Norm::Largest(max(largest, abs(x)))
-            } else {
-                Norm::NotFinite
-            }
-        }
+    let largest = norm?;
+    if is_finite(x) {
+        Some(max(largest, abs(x)))
+    } else {
+        None
     }
 }
 
-/// Of the multipliers.
-fn rho_norm(rho_hi: &[f64], rho_lo: &[f64]) -> Norm
+/// The largest magnitude of the multipliers.
+fn rho_norm(rho_hi: &[f64], rho_lo: &[f64]) -> Option<f64>
     requires { length rho_lo.now ≡ length rho_hi.now }
     ensures { result ≡ finite_max_norm (λ k. value (rho_at rho_hi.now rho_lo.now k)) (length rho_hi.now) }
 {
-    let mut norm = Norm::Largest(0.0);
-    let mut r = 0;
-    while r < rho_hi.len() {
-        let rho = CDouble {
-            hi: rho_hi[r],
-            lo: rho_lo[r],
-        };
+    let mut norm = Some(0.0);
+    for (hi, lo) in rho_hi.iter().zip(rho_lo) {
+        let rho = CDouble { hi: *hi, lo: *lo };
         norm = norm_with(norm, rho.value());
-        r += 1;
     }
     norm
 }
 
-/// Of the second corrections.
-fn second_norm(second: &[f64]) -> Norm
+/// The largest magnitude of the second corrections.
+fn second_norm(second: &[f64]) -> Option<f64>
     ensures { result ≡ finite_max_norm (λ k. get_or second.now k nan) (length second.now) }
 {
-    let mut norm = Norm::Largest(0.0);
-    let mut r = 0;
-    while r < second.len() {
-        norm = norm_with(norm, second[r]);
-        r += 1;
+    let mut norm = Some(0.0);
+    for x in second {
+        norm = norm_with(norm, *x);
     }
     norm
 }
 
 /// Whether the second correction is small enough beside the solution, by their norms.
-fn norms_converge(x_norm: Norm, second_norm: Norm) -> bool
+fn norms_converge(x_norm: Option<f64>, second_norm: Option<f64>) -> bool
     ensures { result ≡ converges x_norm second_norm }
 {
-    match x_norm {
-        Norm::NotFinite => false,
-        Norm::Largest(x) => {
-            match second_norm {
-                Norm::NotFinite => false,
-                Norm::Largest(second) => second <= REFINEMENT_CONVERGED * x,
-            }
-        }
+    match (x_norm, second_norm) {
+        (Some(x), Some(second)) => second <= REFINEMENT_CONVERGED * x,
+        _ => false,
     }
 }
 
 /// Whether the multipliers' errors are bounded, each by its second correction's magnitude: they are checked, and
 /// `refinement_error` answers.
-pub fn error_bounds(checked: u8, rho_hi: &[f64], rho_lo: &[f64], second: &[f64]) -> bool
-    requires { length rho_lo.now ≡ length rho_hi.now }
-    ensures { result ≡ error_bounds checked rho_hi.now rho_lo.now second.now }
+pub fn error_bounds(s: &Sheet) -> bool
+    requires { length s.now.rho_lo.now ≡ length s.now.rho_hi.now }
+    ensures { result ≡ error_bounds s.now.checked s.now.rho_hi.now s.now.rho_lo.now s.now.second.now }
 {
-    if checked == 0 {
+    if s.checked == 0 {
         return false;
     }
-    let x_norm = rho_norm(rho_hi, rho_lo);
-    norms_converge(x_norm, second_norm(second))
+    norms_converge(rho_norm(s.rho_hi, s.rho_lo), second_norm(s.second))
 }

@@ -5,10 +5,10 @@
 ghost use Rattle.std.specs.Prelude.{◌≡◌};
 ghost use Rattle.refusal_numbers.specs.Numbers.{number_of};
 
-/// Which question refuses the sheet.
-#[derive(Clone, Copy)]
+/// Which question refuses the sheet. The first one is put to texts only.
+#[derive(Clone, Copy, PartialEq, Eq, Debug)]
 pub enum Refusal {
-    None,
+    Form,
     Sizes,
     Lengths,
     RowStarts,
@@ -22,22 +22,24 @@ pub enum Refusal {
     LeavingRow,
 }
 
-/// Document 01's number of a refusal.
-pub fn number_of(refusal: Refusal) -> u32
-    ensures { result ≡ number_of refusal }
-{
-    match refusal {
-        Refusal::None => 0,
-        Refusal::Sizes => 2,
-        Refusal::Lengths => 3,
-        Refusal::RowStarts => 4,
-        Refusal::Columns => 5,
-        Refusal::Entries => 6,
-        Refusal::Bounds => 7,
-        Refusal::Tolerances => 8,
-        Refusal::Basis => 9,
-        Refusal::Values => 10,
-        Refusal::Widened => 11,
-        Refusal::LeavingRow => 12,
+impl From<Refusal> for u32 {
+    ghost from_gives = { λ refusal number. number ≡ number_of refusal };
+
+    /// Document 01's number of a refusal.
+    fn from(refusal: Refusal) -> u32 {
+        match refusal {
+            Refusal::Form => 1,
+            Refusal::Sizes => 2,
+            Refusal::Lengths => 3,
+            Refusal::RowStarts => 4,
+            Refusal::Columns => 5,
+            Refusal::Entries => 6,
+            Refusal::Bounds => 7,
+            Refusal::Tolerances => 8,
+            Refusal::Basis => 9,
+            Refusal::Values => 10,
+            Refusal::Widened => 11,
+            Refusal::LeavingRow => 12,
+        }
     }
 }

@@ -5,29 +5,11 @@
 
 ghost use Rattle.std.specs.Prelude.{◌≡◌, set};
 
-/// A double stored at the place `i`, if the slice has it.
-pub fn put_double(doubles: &mut [f64], i: usize, value: f64)
-    ensures { doubles.new ≡ set doubles.old i value }
+/// A value stored at the place `i`, if the slice has it.
+pub fn put<T: Copy>(xs: &mut [T], i: usize, value: T)
+    ensures { xs.new ≡ set xs.old i value }
 {
-    if i < doubles.len() {
-        doubles[i] = value;
-    }
-}
-
-/// A count stored at the place `i`, if the slice has it.
-pub fn put_count(counts: &mut [usize], i: usize, value: usize)
-    ensures { counts.new ≡ set counts.old i value }
-{
-    if i < counts.len() {
-        counts[i] = value;
-    }
-}
-
-/// A flag stored at the place `i`, if the slice has it.
-pub fn put_flag(flags: &mut [u8], i: usize, value: u8)
-    ensures { flags.new ≡ set flags.old i value }
-{
-    if i < flags.len() {
-        flags[i] = value;
+    if i < xs.len() {
+        xs[i] = value;
     }
 }

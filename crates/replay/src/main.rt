@@ -19,36 +19,29 @@
 // line of any other form counts as a sheet that differs.
 #![tactic(auto)]
 
-ghost use Rattle.std.specs.Prelude.{◌+◌, ◌≤◌};
+ghost use Rattle.std.specs.Prelude.{◌≤◌, length};
 
-use kept::{Kept, proof_of};
-use outward_sheet::{Outward, outward_of};
-use sheet::{Outputs, Sizes};
+use added_row::Lists;
+use case_slices::{Slice, Slices, byte, part};
+use judgement::Proof;
+use kept::proof_of;
+use outward_sheet::outward_of;
+use refusal_numbers::Refusal;
+use sheet::{Outputs, Sheet};
 use std::io;
-use std::io::Read;
-use tables::{Value, bits_of, count, double_of, number, read_full};
+use tables::{Tally, bits_of, count, double_of, each_line, numbers};
 
 // Bytes in a line, its end included.
 const LINE: usize = 138;
 
-// What stands for the letter of a line that has not the form of one.
-const BAD: u8 = b'?';
-
-// The counts have a place for each class and one for all sheets: first for those that were run, and from AGREE on for
-// those that agree. The last is for lines that differ.
+// The classes of sheets.
 const CLASSES: usize = 12;
-
-const ALL: usize = 12;
-
-const AGREE: usize = 13;
-
-const LINES: usize = 26;
 
 // How many lines that differ are printed.
 const SHOWN: u64 = 20;
 
-// No slice is longer, so no sheet has more of anything.
-const MOST: usize = 4100;
+// How many slices there are. After them a line may name the numbers of a sheet.
+const SLICES: usize = 18;
 
 // The places of an output, and what they have before a sheet is run.
 const OUTPUT: usize = 400;
@@ -57,281 +50,383 @@ const FILL: u64 = 0x5A5A_5A5A_5A5A_5A5A;
 
 const FILL_TERMS: u32 = 0x5A5A_5A5A;
 
-// What is known of a sheet: the sizes of its slices, its class, the place from KEPT on that is to be compared next, and
-// whether all that was compared agrees.
-const ROWS: usize = 0;
-
-const STRUCTURALS: usize = 1;
-
-const ENTRY_COUNT: usize = 2;
-
-const WIDENED: usize = 3;
-
-const EXTRA: usize = 4;
-
-const CLASS: usize = 5;
-
-const NEXT: usize = 6;
-
-const SOUND: usize = 7;
-
-// The slices.
-const STARTS: usize = 0;
-
-const COLUMNS: usize = 1;
-
-const ENTRIES: usize = 2;
-
-const RIGHT_SIDES: usize = 3;
-
-const SCALES: usize = 4;
-
-const INTEGER: usize = 5;
-
-const MINS: usize = 6;
-
-const MAXS: usize = 7;
-
-const LOW_TOLERANCES: usize = 8;
-
-const HIGH_TOLERANCES: usize = 9;
-
-const BASIC: usize = 10;
-
-const PLACES: usize = 11;
-
-const VALUES: usize = 12;
-
-const WIDENED_VARS: usize = 13;
-
-const WIDENED_UPS: usize = 14;
-
-const RHO_HI: usize = 15;
-
-const RHO_LO: usize = 16;
-
-const SECOND: usize = 17;
-
-const NUMBERS: usize = 18;
-
-// The three arrays that have the slices: those of numbers, those of flags and those of doubles. `room_of` says where.
-// From KEPT on the first has what each output has after a sheet is run, in OUTPUT places.
-const KEPT: usize = 5403;
-
-// After the last place of the last output.
-const DONE: usize = 2000;
-
-// Instead of a place, as long as the gaps are to be compared first.
-const GAPS: usize = 2001;
-
-// The pattern of −infinity.
-const UNLIMITED: usize = 0xFFF0_0000_0000_0000;
-
-type Words = [usize; 7403];
-
-type Flags = [u8; 1424];
-
-type Reals = [f64; 6700];
-
-// The outputs.
-type Output = [f64; 400];
-
-type Terms = [u32; 400];
-
-// A line, and the numbers on it.
-type Line = [u8; 138];
-
-type Given = [usize; 8];
-
-type Counts = [u64; 27];
-
-// A part of an array.
+/// What a line says, as the numbers on it.
 #[derive(Clone, Copy)]
-struct Part {
-    from: usize,
-    end: usize,
+enum Line {
+    New([usize; 8]),
+    Fill([usize; 8]),
+    Run([usize; 8]),
+    Gaps([usize; 8]),
+    List([usize; 8]),
 }
 
-/// The part between two places.
-fn between(from: usize, end: usize) -> Part {
-    Part {
-        from: from,
-        end: end,
+/// How many of each thing a sheet has, and its class.
+#[derive(Clone, Copy)]
+struct Shape {
+    rows: usize,
+    structurals: usize,
+    entries: usize,
+    widened: usize,
+    extra: usize,
+    class: usize,
+}
+
+/// The numbers of a sheet.
+#[derive(Clone, Copy)]
+struct Numbers {
+    feasibility: f64,
+    checked: u8,
+    leaving_row: usize,
+    leaving_up: u8,
+    rows: usize,
+    structurals: usize,
+    entries: usize,
+}
+
+/// An output.
+#[derive(Clone, Copy, PartialEq)]
+enum Output {
+    High,
+    Low,
+    Magnitudes,
+    Terms,
+    Errors,
+}
+
+/// What the outputs have after a sheet is run.
+#[derive(Clone, Copy)]
+struct Written {
+    high: [f64; OUTPUT],
+    low: [f64; OUTPUT],
+    magnitudes: [f64; OUTPUT],
+    terms: [u32; OUTPUT],
+    errors: [f64; OUTPUT],
+}
+
+/// What is to be compared next of a sheet that was run.
+#[derive(Clone, Copy, PartialEq)]
+enum Next {
+    Gaps,
+    Place(Output, usize),
+    Nothing,
+}
+
+/// A sheet, and how far it was compared. It is sound as long as all that was compared agrees.
+#[derive(Drop)]
+struct Case {
+    shape: Shape,
+    numbers: Numbers,
+    slices: Slices,
+    written: Written,
+    next: Next,
+    sound: bool,
+}
+
+/// The tallies of the classes and of all sheets, and how many lines differ. A sheet differs until all of it agrees.
+#[derive(Clone, Copy)]
+struct Counts {
+    classes: [Tally; CLASSES],
+    all: Tally,
+    lines: u64,
+}
+
+/// An answer as it stands on a line, doubles as their patterns.
+#[derive(Clone, Copy, PartialEq)]
+struct Answer {
+    refusal: usize,
+    holds: usize,
+    gap: usize,
+    allowance: usize,
+    cut: usize,
+    zero_within_error: usize,
+    multipliers_zeroed: usize,
+    rows: usize,
+}
+
+impl Answer {
+    /// The one on a line.
+    fn on_line(a: [usize; 8]) -> Answer {
+        let [
+            refusal,
+            holds,
+            gap,
+            allowance,
+            cut,
+            zero_within_error,
+            multipliers_zeroed,
+            rows,
+        ] = a;
+        Answer {
+            refusal,
+            holds,
+            gap,
+            allowance,
+            cut,
+            zero_within_error,
+            multipliers_zeroed,
+            rows,
+        }
+    }
+
+    /// The one of a sheet. All but its number is 0 where a question refuses it.
+    fn of(found: Result<Proof, Refusal>) -> Answer {
+        match found {
+            Ok(p) => Answer {
+                refusal: 0,
+                holds: usize::from(p.holds),
+                gap: bits_of(p.gap) as usize,
+                allowance: bits_of(p.allowance) as usize,
+                cut: bits_of(p.cut) as usize,
+                zero_within_error: p.zero_within_error,
+                multipliers_zeroed: p.multipliers_zeroed,
+                rows: p.rows,
+            },
+            Err(refusal) => Answer {
+                refusal: u32::from(refusal) as usize,
+                holds: 0,
+                gap: 0,
+                allowance: 0,
+                cut: 0,
+                zero_within_error: 0,
+                multipliers_zeroed: 0,
+                rows: 0,
+            },
+        }
     }
 }
 
-/// The part that a slice may fill of the array that has the slices of its type. It's a few places longer than a sheet
-/// with one row, one structural variable or one entry too many wants.
-fn room_of(slice: usize) -> Part {
-    match slice {
-        // numbers: those of the sheet, 132 row starts, 4,100 columns, 388 basis places, 776 widened variables
-        NUMBERS => between(0, 7),
-        STARTS => between(7, 139),
-        COLUMNS => between(139, 4239),
-        PLACES => between(4239, 4627),
-        WIDENED_VARS => between(4627, 5403),
-        // flags: integer for 260 variables, basic for 388, up for 776 widened ones
-        INTEGER => between(0, 260),
-        BASIC => between(260, 648),
-        WIDENED_UPS => between(648, 1424),
-        // doubles: 4,100 entries; 132 of what each row has; 388 of what each variable has
-        ENTRIES => between(0, 4100),
-        RIGHT_SIDES => between(4100, 4232),
-        SCALES => between(4232, 4364),
-        MINS => between(4364, 4752),
-        MAXS => between(4752, 5140),
-        LOW_TOLERANCES => between(5140, 5528),
-        HIGH_TOLERANCES => between(5528, 5916),
-        VALUES => between(5916, 6304),
-        RHO_HI => between(6304, 6436),
-        RHO_LO => between(6436, 6568),
-        SECOND => between(6568, 6700),
-        _ => between(0, 0),
+impl Output {
+    /// The output that a line has at a number.
+    fn from_number(n: usize) -> Option<Output> {
+        match n {
+            0 => Some(Output::High),
+            1 => Some(Output::Low),
+            2 => Some(Output::Magnitudes),
+            3 => Some(Output::Terms),
+            4 => Some(Output::Errors),
+            _ => None,
+        }
+    }
+
+    /// What comes after its last place.
+    fn after(self) -> Next {
+        match self {
+            Output::High => Next::Place(Output::Low, 0),
+            Output::Low => Next::Place(Output::Magnitudes, 0),
+            Output::Magnitudes => Next::Place(Output::Terms, 0),
+            Output::Terms => Next::Place(Output::Errors, 0),
+            Output::Errors => Next::Nothing,
+        }
     }
 }
 
-/// The smaller of two numbers.
-fn least(a: usize, b: usize) -> usize
-    ensures { (result ≤ a) × (result ≤ b) }
-{
-    if a < b { a } else { b }
-}
+impl Shape {
+    /// That of a sheet with nothing in it.
+    const EMPTY: Shape = Shape {
+        rows: 0,
+        structurals: 0,
+        entries: 0,
+        widened: 0,
+        extra: 0,
+        class: 0,
+    };
 
-/// The variables of a sheet, slacks and all.
-fn variables(sizes: &Given) -> usize
-    ensures { result ≤ 8200 }
-{
-    least(sizes[ROWS], MOST) + least(sizes[STRUCTURALS], MOST)
-}
+    /// The one on a line, if there is room for it and the line has no more.
+    fn on_line(a: [usize; 8]) -> Option<Shape> {
+        let [
+            rows,
+            structurals,
+            entries,
+            widened,
+            extra,
+            class,
+            none,
+            no_more,
+        ] = a;
+        let small = rows < 132 && structurals <= 257 && entries <= 4100 && widened <= 776;
+        if small && extra <= 12 && class < CLASSES && none == 0 && no_more == 0 {
+            Some(Shape {
+                rows,
+                structurals,
+                entries,
+                widened,
+                extra,
+                class,
+            })
+        } else {
+            None
+        }
+    }
 
-/// The length of a slice of a sheet.
-fn length_of(slice: usize, sizes: &Given) -> usize {
-    match slice {
-        STARTS => least(sizes[ROWS], MOST) + 1,
-        COLUMNS | ENTRIES => sizes[ENTRY_COUNT],
-        RIGHT_SIDES | SCALES | RHO_HI | RHO_LO | SECOND => sizes[ROWS],
-        INTEGER => sizes[STRUCTURALS],
-        WIDENED_VARS | WIDENED_UPS => sizes[WIDENED],
-        NUMBERS => 7,
-        _ => variables(sizes),
+    /// The variables, slacks and all.
+    fn variables(self) -> usize {
+        self.rows.saturating_add(self.structurals)
+    }
+
+    /// The length of a slice.
+    fn length(self, slice: Slice) -> usize {
+        match slice {
+            Slice::Starts => self.rows.saturating_add(1),
+            Slice::Columns | Slice::Entries => self.entries,
+            Slice::RightSides | Slice::Scales | Slice::RhoHi | Slice::RhoLo | Slice::Second =>
+                self.rows,
+            Slice::Integer => self.structurals,
+            Slice::WidenedVars | Slice::WidenedUps => self.widened,
+            _ => self.variables(),
+        }
+    }
+
+    /// The length of each output.
+    fn outputs(self) -> usize
+        ensures { result ≤ 400 }
+    {
+        self.variables().saturating_add(self.extra).min(OUTPUT)
     }
 }
 
-/// The length of each output.
-fn outputs_of(sizes: &Given) -> usize
-    ensures { result ≤ 400 }
-{
-    least(variables(sizes) + least(sizes[EXTRA], OUTPUT), OUTPUT)
-}
+impl Numbers {
+    /// Those of a new sheet.
+    fn new(shape: Shape) -> Numbers {
+        Numbers {
+            feasibility: 0.0,
+            checked: 0,
+            leaving_row: 0,
+            leaving_up: 0,
+            rows: shape.rows,
+            structurals: shape.structurals,
+            entries: shape.entries,
+        }
+    }
 
-/// Whether there is room for a sheet that a line gives the sizes of, and the line has no more than those.
-fn has_room(a: &Given) -> bool {
-    (a[ROWS] < 132)
-        & (a[STRUCTURALS] <= 257)
-        & (a[ENTRY_COUNT] <= MOST)
-        & (a[WIDENED] <= 776)
-        & (a[EXTRA] <= 12)
-        & (a[CLASS] < CLASSES)
-        & (a[6] == 0)
-        & (a[7] == 0)
-}
-
-/// What a slice of a sheet fills of an array of `most` places.
-fn part_of(slice: usize, sizes: &Given, most: usize) -> Part
-    ensures { (result.from ≤ result.end) × (result.end ≤ most) }
-{
-    let room = room_of(slice);
-    let end = least(room.end, most);
-    let from = least(room.from, end);
-    let length = least(length_of(slice, sizes), end - from);
-    Part {
-        from: from,
-        end: from + length,
+    /// Puts one of the numbers, and answers whether there is one at the place.
+    fn put(&mut self, place: usize, value: usize) -> bool {
+        match place {
+            0 => self.feasibility = double_of(value as u64),
+            1 => self.checked = byte(value),
+            2 => self.leaving_row = value,
+            3 => self.leaving_up = byte(value),
+            4 => self.rows = value,
+            5 => self.structurals = value,
+            6 => self.entries = value,
+            _ => return false,
+        }
+        true
     }
 }
 
-/// A slice of numbers.
-fn words_of<'a>(words: &'a [usize], sizes: &Given, slice: usize) -> &'a [usize] {
-    let p = part_of(slice, sizes, words.len());
-    let from = p.from;
-    let end = p.end;
-    &words[from..end]
+impl Written {
+    /// What the outputs have before a sheet is run.
+    fn new() -> Written {
+        let v = double_of(FILL);
+        Written {
+            high: [v; OUTPUT],
+            low: [v; OUTPUT],
+            magnitudes: [v; OUTPUT],
+            terms: [FILL_TERMS; OUTPUT],
+            errors: [v; OUTPUT],
+        }
+    }
+
+    /// What an output has at a place, a double as its pattern.
+    fn at(&self, output: Output, place: usize) -> Option<usize> {
+        match output {
+            Output::High => pattern_at(&self.high, place),
+            Output::Low => pattern_at(&self.low, place),
+            Output::Magnitudes => pattern_at(&self.magnitudes, place),
+            Output::Terms => self.terms.get(place).map(|n| *n as usize),
+            Output::Errors => pattern_at(&self.errors, place),
+        }
+    }
+
+    /// Whether an output has from a place on what a line says.
+    fn has(&self, output: Output, place: usize, values: &[usize]) -> bool {
+        for (k, value) in values.iter().enumerate() {
+            if self.at(output, place.saturating_add(k)) != Some(*value) {
+                return false;
+            }
+        }
+        true
+    }
 }
 
-/// A slice of flags.
-fn flags_of<'a>(flags: &'a [u8], sizes: &Given, slice: usize) -> &'a [u8] {
-    let p = part_of(slice, sizes, flags.len());
-    let from = p.from;
-    let end = p.end;
-    &flags[from..end]
+/// A double's pattern at a place.
+fn pattern_at(output: &[f64], place: usize) -> Option<usize> {
+    output.get(place).map(|v| bits_of(*v) as usize)
 }
 
-/// A slice of doubles.
-fn reals_of<'a>(reals: &'a [f64], sizes: &Given, slice: usize) -> &'a [f64] {
-    let p = part_of(slice, sizes, reals.len());
-    let from = p.from;
-    let end = p.end;
-    &reals[from..end]
+impl Case {
+    /// A new sheet: 0 everywhere, but for its sizes.
+    fn new(shape: Shape) -> Case {
+        Case {
+            shape,
+            numbers: Numbers::new(shape),
+            slices: Slices::ZERO,
+            written: Written::new(),
+            next: Next::Nothing,
+            sound: false,
+        }
+    }
 }
 
-/// The last eight bits.
-fn byte(n: usize) -> u8 {
-    (n % 256) as u8
+/// Puts a value at a place of a slice, or of the numbers, and answers whether there is such a place.
+fn put(case: &mut Case, slice: usize, place: usize, value: usize) -> bool {
+    match Slice::from_number(slice) {
+        Some(slice) => place < case.shape.length(slice) && case.slices.put(slice, place, value),
+        None => slice == SLICES && case.numbers.put(place, value),
+    }
 }
 
-/// Runs a sheet, given its outputs. Its numbers are feasibility; `checked`, the leaving row and `leaving_up`; rows,
-/// structural variables and entries.
-fn answer(
-    sizes: &Given,
-    words: &Words,
-    flags: &Flags,
-    reals: &Reals,
-    high: &mut [f64],
-    low: &mut [f64],
-    magnitudes: &mut [f64],
-    terms: &mut [u32],
-    errors: &mut [f64],
-) -> Kept {
-    proof_of(
-        words[4],
-        words[5],
-        words[6],
-        double_of(words[0] as u64),
-        byte(words[1]),
-        words[2],
-        byte(words[3]),
-        high,
-        low,
-        magnitudes,
-        terms,
-        errors,
-        words_of(words, sizes, STARTS),
-        words_of(words, sizes, COLUMNS),
-        reals_of(reals, sizes, ENTRIES),
-        reals_of(reals, sizes, RIGHT_SIDES),
-        reals_of(reals, sizes, SCALES),
-        flags_of(flags, sizes, INTEGER),
-        reals_of(reals, sizes, MINS),
-        reals_of(reals, sizes, MAXS),
-        reals_of(reals, sizes, LOW_TOLERANCES),
-        reals_of(reals, sizes, HIGH_TOLERANCES),
-        flags_of(flags, sizes, BASIC),
-        words_of(words, sizes, PLACES),
-        reals_of(reals, sizes, VALUES),
-        words_of(words, sizes, WIDENED_VARS),
-        flags_of(flags, sizes, WIDENED_UPS),
-        reals_of(reals, sizes, RHO_HI),
-        reals_of(reals, sizes, RHO_LO),
-        reals_of(reals, sizes, SECOND),
-    )
+/// Puts the values of a line into a slice from a place on, and answers whether it has such places.
+fn put_values(case: &mut Case, slice: usize, place: usize, values: &[usize]) -> bool {
+    for (k, value) in values.iter().enumerate() {
+        if !put(case, slice, place.saturating_add(k), *value) {
+            return false;
+        }
+    }
+    true
 }
 
-/// How many rows, structural variables and entries a sheet says that it has.
-fn sizes_of(words: &Words) -> Sizes {
-    Sizes {
-        rows: words[4],
-        structurals: words[5],
-        entries: words[6],
+/// The values of a line that has a number for a place's, and from 1 to 5 values.
+fn values_of(a: &[usize; 8]) -> Option<&[usize]> {
+    let n = a[2];
+    if 1 <= n && n <= 5 {
+        Some(&a[3..3 + n])
+    } else {
+        None
+    }
+}
+
+/// The sheet of a case, as it is lent.
+fn lent(case: &Case) -> Sheet<'_> {
+    let n = &case.numbers;
+    let s = &case.slices;
+    let shape = case.shape;
+    Sheet {
+        rows: n.rows,
+        structurals: n.structurals,
+        entry_count: n.entries,
+        feasibility: n.feasibility,
+        checked: n.checked,
+        leaving_row: n.leaving_row,
+        leaving_up: n.leaving_up,
+        starts: part(&s.starts, shape.length(Slice::Starts)),
+        columns: part(&s.columns, shape.length(Slice::Columns)),
+        entries: part(&s.entries, shape.length(Slice::Entries)),
+        right_sides: part(&s.right_sides, shape.length(Slice::RightSides)),
+        scales: part(&s.scales, shape.length(Slice::Scales)),
+        integer: part(&s.integer, shape.length(Slice::Integer)),
+        mins: part(&s.mins, shape.length(Slice::Mins)),
+        maxs: part(&s.maxs, shape.length(Slice::Maxs)),
+        low_tolerances: part(&s.low_tolerances, shape.length(Slice::LowTolerances)),
+        high_tolerances: part(&s.high_tolerances, shape.length(Slice::HighTolerances)),
+        basic: part(&s.basic, shape.length(Slice::Basic)),
+        places: part(&s.places, shape.length(Slice::Places)),
+        values: part(&s.values, shape.length(Slice::Values)),
+        widened_variables: part(&s.widened_vars, shape.length(Slice::WidenedVars)),
+        widened_ups: part(&s.widened_ups, shape.length(Slice::WidenedUps)),
+        rho_hi: part(&s.rho_hi, shape.length(Slice::RhoHi)),
+        rho_lo: part(&s.rho_lo, shape.length(Slice::RhoLo)),
+        second: part(&s.second, shape.length(Slice::Second)),
     }
 }
 
@@ -347,520 +442,227 @@ fn outputs_alike(length: usize) -> Outputs {
 }
 
 /// The outward gap of a sheet, whose outputs have the lengths that `run` lends.
-fn outward_answer(sizes: &Given, words: &Words, flags: &Flags, reals: &Reals) -> Outward {
-    outward_of(
-        sizes_of(words),
-        double_of(words[0] as u64),
-        byte(words[1]),
-        words[2],
-        byte(words[3]),
-        outputs_alike(outputs_of(sizes)),
-        words_of(words, sizes, STARTS),
-        words_of(words, sizes, COLUMNS),
-        reals_of(reals, sizes, ENTRIES),
-        reals_of(reals, sizes, RIGHT_SIDES),
-        reals_of(reals, sizes, SCALES),
-        flags_of(flags, sizes, INTEGER),
-        reals_of(reals, sizes, MINS),
-        reals_of(reals, sizes, MAXS),
-        reals_of(reals, sizes, LOW_TOLERANCES),
-        reals_of(reals, sizes, HIGH_TOLERANCES),
-        flags_of(flags, sizes, BASIC),
-        words_of(words, sizes, PLACES),
-        reals_of(reals, sizes, VALUES),
-        words_of(words, sizes, WIDENED_VARS),
-        flags_of(flags, sizes, WIDENED_UPS),
-        reals_of(reals, sizes, RHO_HI),
-        reals_of(reals, sizes, RHO_LO),
-        reals_of(reals, sizes, SECOND),
-    )
-}
-
-/// The pattern at a place of an output of doubles.
-fn pattern(output: &Output, place: usize) -> usize
-    requires { place ≤ 399 }
-{
-    bits_of(output[place]) as usize
-}
-
-/// A count as a number.
-fn wide(n: u32) -> usize {
-    n as usize
-}
-
-/// Keeps what the outputs have, each in OUTPUT places from KEPT on.
-fn keep(
-    words: &mut Words,
-    high: &Output,
-    low: &Output,
-    magnitudes: &Output,
-    terms: &Terms,
-    errors: &Output,
-) {
-    for k in 0..OUTPUT {
-        words[5403 + k] = pattern(high, k);
-        words[5803 + k] = pattern(low, k);
-        words[6203 + k] = pattern(magnitudes, k);
-        words[6603 + k] = wide(terms[k]);
-        words[7003 + k] = pattern(errors, k);
-    }
+fn outward_answer(case: &Case) -> Result<f64, Refusal> {
+    outward_of(&lent(case), outputs_alike(case.shape.outputs()))
 }
 
 /// Runs a sheet, and keeps what its outputs have then.
-fn run(sizes: &Given, words: &mut Words, flags: &Flags, reals: &Reals) -> Kept {
-    let v = double_of(FILL);
-    let mut high = [v; 400];
-    let mut low = [v; 400];
-    let mut magnitudes = [v; 400];
-    let mut terms = [FILL_TERMS; 400];
-    let mut errors = [v; 400];
-    let n = outputs_of(sizes);
-    let k = answer(
-        sizes,
-        words,
-        flags,
-        reals,
-        &mut high[..n],
-        &mut low[..n],
-        &mut magnitudes[..n],
-        &mut terms[..n],
-        &mut errors[..n],
-    );
-    keep(words, &high, &low, &magnitudes, &terms, &errors);
-    k
+fn run(case: &mut Case) -> Answer {
+    let n = case.shape.outputs();
+    let mut w = Written::new();
+    let mut l = Lists {
+        high: &mut w.high[..n],
+        low: &mut w.low[..n],
+        magnitudes: &mut w.magnitudes[..n],
+        terms: &mut w.terms[..n],
+    };
+    let found = proof_of(&lent(case), &mut l, &mut w.errors[..n]);
+    case.written = w;
+    Answer::of(found)
 }
 
-/// Whether a double has a pattern.
-fn is(v: f64, pattern: usize) -> bool {
-    bits_of(v) == pattern as u64
+/// Whether an outward gap is the one on a line, and not above the exact one there, or −infinity.
+fn gap_agrees(found: Result<f64, Refusal>, a: [usize; 8]) -> bool {
+    let (refusal, gap) = match found {
+        Ok(gap) => (0, gap),
+        Err(refusal) => (u32::from(refusal) as usize, 0.0),
+    };
+    let within = gap == f64::NEG_INFINITY || gap <= double_of(a[2] as u64);
+    refusal == a[0] && bits_of(gap) as usize == a[1] && within && a[3..] == [0; 5]
 }
 
-/// A truth value as a number.
-fn flag(b: bool) -> usize {
-    if b { 1 } else { 0 }
-}
+impl Counts {
+    const NONE: Counts = Counts {
+        classes: [Tally::NONE; CLASSES],
+        all: Tally::NONE,
+        lines: 0,
+    };
 
-/// Whether an answer is the one on a line.
-fn agrees(k: Kept, a: &Given) -> bool {
-    (wide(k.refusal) == a[0])
-        & (flag(k.holds) == a[1])
-        & is(k.gap, a[2])
-        & is(k.allowance, a[3])
-        & is(k.cut, a[4])
-        & (k.zero_within_error == a[5])
-        & (k.multipliers_zeroed == a[6])
-        & (k.rows == a[7])
-}
-
-/// Whether a gap is −infinity, or there is an exact one and it's not above that.
-fn is_within(gap: f64, exact: f64) -> bool {
-    is(gap, UNLIMITED) || gap <= exact
-}
-
-/// Whether an outward gap is the one on a line, and not above the exact one there.
-fn gap_agrees(o: Outward, a: &Given) -> bool {
-    (wide(o.refusal) == a[0])
-        & is(o.gap, a[1])
-        & is_within(o.gap, double_of(a[2] as u64))
-        & (a[3] == 0)
-        & (a[4] == 0)
-        & (a[5] == 0)
-        & (a[6] == 0)
-        & (a[7] == 0)
-}
-
-/// Puts a number at a place of a slice, and answers whether the slice has such a place.
-fn put_word(words: &mut [usize], sizes: &Given, slice: usize, place: usize, value: usize) -> bool {
-    let p = part_of(slice, sizes, words.len());
-    let from = p.from;
-    if place < p.end - from {
-        words[from + place] = value;
-        true
-    } else {
-        false
+    /// Counts a sheet that is run.
+    fn open(&mut self, class: usize) {
+        count(&mut self.classes, class, false);
+        self.all = self.all.one_more(false);
     }
-}
 
-/// The same for a flag.
-fn put_flag(flags: &mut [u8], sizes: &Given, slice: usize, place: usize, value: u8) -> bool {
-    let p = part_of(slice, sizes, flags.len());
-    let from = p.from;
-    if place < p.end - from {
-        flags[from + place] = value;
-        true
-    } else {
-        false
-    }
-}
-
-/// The same for a double.
-fn put_real(reals: &mut [f64], sizes: &Given, slice: usize, place: usize, value: f64) -> bool {
-    let p = part_of(slice, sizes, reals.len());
-    let from = p.from;
-    if place < p.end - from {
-        reals[from + place] = value;
-        true
-    } else {
-        false
-    }
-}
-
-/// Puts a value at a place of a slice of any type: a number, a flag, or a double's pattern.
-fn put(
-    slice: usize,
-    place: usize,
-    value: usize,
-    sizes: &Given,
-    words: &mut Words,
-    flags: &mut Flags,
-    reals: &mut Reals,
-) -> bool {
-    match slice {
-        STARTS | COLUMNS | PLACES | WIDENED_VARS | NUMBERS => {
-            put_word(words, sizes, slice, place, value)
+    /// Counts a sheet all of which agrees.
+    fn agree(&mut self, class: usize) {
+        if class < CLASSES {
+            self.classes[class] = agreeing(self.classes[class]);
         }
-        INTEGER | BASIC | WIDENED_UPS => put_flag(flags, sizes, slice, place, byte(value)),
-        _ => put_real(reals, sizes, slice, place, double_of(value as u64)),
+        self.all = agreeing(self.all);
     }
-}
 
-/// Puts the values of a line into a slice, and answers whether it has such places.
-fn put_values(
-    place: usize,
-    n: usize,
-    a: &Given,
-    sizes: &Given,
-    words: &mut Words,
-    flags: &mut Flags,
-    reals: &mut Reals,
-) -> bool
-    requires { (place ≤ 4100) × (n ≤ 5) }
-{
-    for k in 0..n {
-        if !put(a[0], place + k, a[3 + k], sizes, words, flags, reals) {
-            return false;
+    /// Counts a line that differs, and prints it if it's among the first.
+    fn show(&mut self, rt: &impl Print, line: &[u8]) -> io::Result<()> {
+        self.lines = self.lines.saturating_add(1);
+        if self.lines <= SHOWN {
+            rt.write_all(line)?;
         }
+        Ok(())
     }
-    true
-}
 
-/// The same where a line may have no such values.
-fn fill(a: &Given, sizes: &Given, words: &mut Words, flags: &mut Flags, reals: &mut Reals) -> bool {
-    let place = a[1];
-    let n = a[2];
-    if place <= MOST && 1 <= n && n <= 5 {
-        put_values(place, n, a, sizes, words, flags, reals)
-    } else {
-        false
+    /// Counts a line that has not the form of one, as a sheet of no class that differs.
+    fn refuse(&mut self, rt: &impl Print, line: &[u8]) -> io::Result<()> {
+        self.all = self.all.one_more(false);
+        self.show(rt, line)
     }
 }
 
-/// Makes a new sheet, and answers whether there is room for it.
-fn make(
-    a: &Given,
-    sizes: &mut Given,
-    words: &mut Words,
-    flags: &mut Flags,
-    reals: &mut Reals,
-) -> bool {
-    if has_room(a) {
-        *sizes = *a;
-        sizes[NEXT] = DONE;
-        *words = [0usize; 7403];
-        words[4] = a[ROWS];
-        words[5] = a[STRUCTURALS];
-        words[6] = a[ENTRY_COUNT];
-        *flags = [0u8; 1424];
-        *reals = [0f64; 6700];
-        true
-    } else {
-        false
+/// One sheet less that differs.
+fn agreeing(tally: Tally) -> Tally {
+    Tally {
+        ran: tally.ran,
+        differ: tally.differ.saturating_sub(1),
     }
-}
-
-/// Whether the outputs have from a place on what a line says.
-fn same_places(place: usize, n: usize, a: &Given, words: &Words) -> bool
-    requires { (n ≤ 5) × (place + n ≤ 2000) }
-{
-    for k in 0..n {
-        if words[KEPT + place + k] != a[3 + k] {
-            return false;
-        }
-    }
-    true
-}
-
-/// How many places of an output a line is about, 0 where they are none, or not those that are to be compared next.
-fn listed(a: &Given, sizes: &Given) -> usize
-    ensures { result ≤ 5 }
-{
-    let n = a[2];
-    let list = a[0];
-    let place = least(a[1], OUTPUT);
-    let next = OUTPUT * least(list, 4) + place;
-    let end = place + least(n, 5);
-    if n <= 5 && (list <= 4) & (next == sizes[NEXT]) & (end <= outputs_of(sizes)) {
-        n
-    } else {
-        0
-    }
-}
-
-/// The place to be compared next: `place` if its output, one of `length` places, has it, or else the next output's first.
-fn after(place: usize, length: usize) -> usize
-    requires { place ≤ 2400 }
-{
-    if place % OUTPUT < length {
-        place
-    } else {
-        place - place % OUTPUT + OUTPUT
-    }
-}
-
-/// Prints a line that differs, if it's among the first.
-fn show(rt: &impl Print, line: &Line, counts: &mut Counts) -> io::Result<()> {
-    count(counts, LINES);
-    if counts[LINES] <= SHOWN {
-        rt.write_all(line)?;
-    }
-    Ok(())
-}
-
-/// Counts a line that has not the form of one, as a sheet of no class that differs.
-fn refuse(rt: &impl Print, line: &Line, counts: &mut Counts) -> io::Result<()> {
-    count(counts, ALL);
-    show(rt, line, counts)
-}
-
-/// Counts a sheet for a place from `from` on.
-fn count_sheet(from: usize, sizes: &Given, counts: &mut Counts)
-    requires { from ≤ 13 }
-{
-    count(counts, from + least(sizes[CLASS], CLASSES));
-    count(counts, from + ALL);
-}
-
-/// Counts a sheet that is run.
-fn open(sizes: &mut Given, counts: &mut Counts) {
-    count_sheet(0, sizes, counts);
-    sizes[NEXT] = GAPS;
-    sizes[SOUND] = 1;
 }
 
 /// Takes in whether what a line says of a sheet agrees. After the last place a sheet that agrees is counted.
 fn settle(
     rt: &impl Print,
     ok: bool,
-    line: &Line,
-    sizes: &mut Given,
+    line: &[u8],
+    case: &mut Case,
     counts: &mut Counts,
 ) -> io::Result<()> {
     if !ok {
-        sizes[SOUND] = 0;
-        show(rt, line, counts)?;
+        case.sound = false;
+        counts.show(rt, line)?;
     }
-    if sizes[NEXT] == DONE && sizes[SOUND] == 1 {
-        count_sheet(AGREE, sizes, counts);
+    if case.next == Next::Nothing && case.sound {
+        counts.agree(case.shape.class);
     }
     Ok(())
-}
-
-/// Reckons outward a sheet whose gaps are on a line, if it was run just before.
-fn compare_gaps(
-    rt: &impl Print,
-    line: &Line,
-    a: &Given,
-    sizes: &mut Given,
-    words: &Words,
-    flags: &Flags,
-    reals: &Reals,
-    counts: &mut Counts,
-) -> io::Result<()> {
-    if sizes[NEXT] == GAPS {
-        sizes[NEXT] = if outputs_of(sizes) == 0 { DONE } else { 0 };
-        let ok = gap_agrees(outward_answer(sizes, words, flags, reals), a);
-        settle(rt, ok, line, sizes, counts)
-    } else {
-        refuse(rt, line, counts)
-    }
-}
-
-/// Compares places of an output.
-fn compare(
-    rt: &impl Print,
-    line: &Line,
-    a: &Given,
-    sizes: &mut Given,
-    words: &Words,
-    counts: &mut Counts,
-) -> io::Result<()> {
-    let n = listed(a, sizes);
-    if n == 0 {
-        refuse(rt, line, counts)
-    } else {
-        let place = least(sizes[NEXT], DONE - n);
-        sizes[NEXT] = after(place + n, outputs_of(sizes));
-        settle(rt, same_places(place, n, a, words), line, sizes, counts)
-    }
-}
-
-/// Reads the eight numbers of a line, and answers whether each is one and stands after a space.
-fn read_numbers(s: &Line, a: &mut Given) -> bool {
-    for i in 0..8 {
-        let Value::Is(v) = number(s, 2 + 17 * i) else {
-            return false;
-        };
-        if s[1 + 17 * i] != b' ' {
-            return false;
-        }
-        a[i] = v as usize;
-    }
-    true
-}
-
-/// The letter of a line whose numbers are read, BAD for a line of another form.
-fn letter_of(s: &Line, a: &mut Given) -> u8 {
-    if read_numbers(s, a) && s[137] == b'\n' {
-        s[0]
-    } else {
-        BAD
-    }
-}
-
-/// Does what a line says that makes or fills a sheet, and answers whether it can be done.
-fn change(
-    letter: u8,
-    a: &Given,
-    sizes: &mut Given,
-    words: &mut Words,
-    flags: &mut Flags,
-    reals: &mut Reals,
-) -> bool {
-    match letter {
-        b'S' => make(a, sizes, words, flags, reals),
-        b'D' => fill(a, sizes, words, flags, reals),
-        _ => false,
-    }
 }
 
 /// Runs a sheet whose answer is on a line.
 fn run_sheet(
     rt: &impl Print,
-    line: &Line,
-    a: &Given,
-    sizes: &mut Given,
-    words: &mut Words,
-    flags: &Flags,
-    reals: &Reals,
+    line: &[u8],
+    a: [usize; 8],
+    case: &mut Case,
     counts: &mut Counts,
 ) -> io::Result<()> {
-    open(sizes, counts);
-    let ok = agrees(run(sizes, words, flags, reals), a);
-    settle(rt, ok, line, sizes, counts)
+    counts.open(case.shape.class);
+    case.next = Next::Gaps;
+    case.sound = true;
+    let ok = run(case) == Answer::on_line(a);
+    settle(rt, ok, line, case, counts)
+}
+
+/// Reckons outward a sheet whose gaps are on a line, if it was run just before.
+fn compare_gaps(
+    rt: &impl Print,
+    line: &[u8],
+    a: [usize; 8],
+    case: &mut Case,
+    counts: &mut Counts,
+) -> io::Result<()> {
+    if case.next != Next::Gaps {
+        return counts.refuse(rt, line);
+    }
+    case.next = if case.shape.outputs() == 0 {
+        Next::Nothing
+    } else {
+        Next::Place(Output::High, 0)
+    };
+    let ok = gap_agrees(outward_answer(case), a);
+    settle(rt, ok, line, case, counts)
+}
+
+/// Compares places of an output, if they are those to be compared next.
+fn compare(
+    rt: &impl Print,
+    line: &[u8],
+    a: [usize; 8],
+    case: &mut Case,
+    counts: &mut Counts,
+) -> io::Result<()> {
+    let place = a[1];
+    let Some(output) = Output::from_number(a[0]) else {
+        return counts.refuse(rt, line);
+    };
+    let Some(values) = values_of(&a) else {
+        return counts.refuse(rt, line);
+    };
+    let end = place.saturating_add(values.len());
+    let length = case.shape.outputs();
+    if case.next != Next::Place(output, place) || length < end {
+        return counts.refuse(rt, line);
+    }
+    case.next = if end < length {
+        Next::Place(output, end)
+    } else {
+        output.after()
+    };
+    let ok = case.written.has(output, place, values);
+    settle(rt, ok, line, case, counts)
+}
+
+/// What a line says. One of another form says nothing.
+fn read_line(line: &[u8]) -> Option<Line> {
+    let a = numbers::<8>(line)?.map(|n| n as usize);
+    match line.first()? {
+        b'S' => Some(Line::New(a)),
+        b'D' => Some(Line::Fill(a)),
+        b'G' => Some(Line::Run(a)),
+        b'O' => Some(Line::Gaps(a)),
+        b'L' => Some(Line::List(a)),
+        _ => None,
+    }
+}
+
+/// Makes a new sheet, and answers whether there is room for it.
+fn make(a: [usize; 8], case: &mut Case) -> bool {
+    match Shape::on_line(a) {
+        Some(shape) => {
+            *case = Case::new(shape);
+            true
+        }
+        None => false,
+    }
+}
+
+/// Puts the values of a line into a slice, and answers whether it has such places.
+fn fill(a: [usize; 8], case: &mut Case) -> bool {
+    match values_of(&a) {
+        Some(values) => put_values(case, a[0], a[1], values),
+        None => false,
+    }
 }
 
 /// Runs a line.
-fn run_line(
-    rt: &impl Print,
-    line: &Line,
-    sizes: &mut Given,
-    words: &mut Words,
-    flags: &mut Flags,
-    reals: &mut Reals,
-    counts: &mut Counts,
-) -> io::Result<()> {
-    let mut a = [0usize; 8];
-    let letter = letter_of(line, &mut a);
-    if letter == b'G' {
-        run_sheet(rt, line, &a, sizes, words, flags, reals, counts)?;
-    } else if letter == b'O' {
-        compare_gaps(rt, line, &a, sizes, words, flags, reals, counts)?;
-    } else if letter == b'L' {
-        compare(rt, line, &a, sizes, words, counts)?;
-    } else if !change(letter, &a, sizes, words, flags, reals) {
-        refuse(rt, line, counts)?;
+fn run_line(rt: &impl Print, line: &[u8], case: &mut Case, counts: &mut Counts) -> io::Result<()> {
+    let done = match read_line(line) {
+        Some(Line::New(a)) => make(a, case),
+        Some(Line::Fill(a)) => fill(a, case),
+        Some(Line::Run(a)) => return run_sheet(rt, line, a, case, counts),
+        Some(Line::Gaps(a)) => return compare_gaps(rt, line, a, case, counts),
+        Some(Line::List(a)) => return compare(rt, line, a, case, counts),
+        None => false,
+    };
+    if done {
+        Ok(())
+    } else {
+        counts.refuse(rt, line)
     }
-    Ok(())
 }
 
-/// Reads and runs the next line, and answers whether there may be another. What is left of a line cut short stays 0, so
-/// such a line has not the form of one.
-fn run_next<I: Read, R: Print>(
-    input: &mut I,
-    rt: &R,
-    sizes: &mut Given,
-    words: &mut Words,
-    flags: &mut Flags,
-    reals: &mut Reals,
-    counts: &mut Counts,
-) -> io::Result<bool> {
-    let mut line = [0u8; 138];
-    let got = read_full(input, &mut line)?;
-    if got > 0 {
-        run_line(rt, &line, sizes, words, flags, reals, counts)?;
+/// Writes how many sheets of each class and of all were run and how many differ.
+fn report(rt: &impl Print, counts: &Counts) -> io::Result<()> {
+    for (class, tally) in counts.classes.iter().enumerate() {
+        println!(rt;
+            "class {class}: {} sheets, {} differ",
+            tally.ran, tally.differ
+        )?;
     }
-    Ok(got == LINE)
-}
-
-/// A proved loop has to end, and nothing says that the input does. So the loop counts its turns down, from a number that
-/// no run uses up.
-fn run_table<I: Read, R: Print>(
-    input: &mut I,
-    rt: &R,
-    sizes: &mut Given,
-    words: &mut Words,
-    flags: &mut Flags,
-    reals: &mut Reals,
-    counts: &mut Counts,
-) -> io::Result<()> {
-    let mut turns = u64::MAX;
-    while turns > 0 && run_next(input, rt, sizes, words, flags, reals, counts)? {
-        turns -= 1;
-    }
-    Ok(())
-}
-
-/// Writes how many sheets were run and how many differ. No more agree than were run.
-fn report(rt: &impl Print, counts: &Counts, place: usize) -> io::Result<()>
-    requires { place ≤ 12 }
-{
-    let run = counts[place];
-    let agree = counts[AGREE + place];
-    let differ = if agree < run { run - agree } else { 0 };
-    println!(rt; "{run} sheets, {differ} differ")
-}
-
-/// The same of a class.
-fn report_class(rt: &impl Print, counts: &Counts, class: usize) -> io::Result<()>
-    requires { class ≤ 12 }
-{
-    print!(rt; "class {class}: ")?;
-    report(rt, counts, class)
-}
-
-/// And of all classes.
-fn report_classes(rt: &impl Print, counts: &Counts) -> io::Result<()> {
-    for class in 0..CLASSES {
-        report_class(rt, counts, class)?;
-    }
-    Ok(())
+    println!(rt; "{} sheets, {} differ", counts.all.ran, counts.all.differ)
 }
 
 fn main(rt: HostRuntime) -> io::Result<()> {
-    let mut counts = [0u64; 27];
-    let mut sizes = [0usize; 8];
-    let mut words = [0usize; 7403];
-    let mut flags = [0u8; 1424];
-    let mut reals = [0f64; 6700];
-    run_table(
-        &mut rt.stdin(),
-        &rt,
-        &mut sizes,
-        &mut words,
-        &mut flags,
-        &mut reals,
-        &mut counts,
-    )?;
-    report_classes(&rt, &counts)?;
-    report(&rt, &counts, ALL)
+    let mut counts = Counts::NONE;
+    let mut case = Case::new(Shape::EMPTY);
+    each_line::<LINE, _, _>(&mut rt.stdin(), |line| {
+        run_line(&rt, line, &mut case, &mut counts)
+    })?;
+    report(&rt, &counts)
 }

@@ -1,59 +1,44 @@
 //! Questions over the rows, whose columns and entries are handed on as parts of the lent slices.
-ghost use Rattle.std.specs.Prelude.{◌≡◌, ◌+◌, ◌-◌, ◌<◌, ◌^◌, length};
+ghost use Rattle.std.specs.Prelude.{◌≡◌, ◌+◌, ◌-◌, ◌<◌, ◌≤◌, ◌^◌, length, get_or};
 ghost use Rattle.questions.specs.Places.{all_below};
-ghost use Rattle.row_questions.specs.Rows.{RowsLie};
-ghost use Rattle.row_questions.specs.Questions.{column_fine_at, columns_fine, entries_fine, rises_at, row_columns_fine, slack_entry_fine, slack_entry_fine_at, starts_fine};
+ghost use Rattle.row_questions.specs.Rows.{part, RowsLie};
+ghost use Rattle.row_questions.specs.Questions.{column_fine_at, columns_fine, entries_fine, row_columns_fine, slack_entry_fine, slack_entry_fine_at, starts_fine};
 
 use questions::all_finite;
-
-/// Whether no start lies above the next.
-fn never_fall(rows: usize, starts: &[usize]) -> bool
-    requires { length starts.now ≡ rows + 1 }
-    ensures { result ≡ all_below rows (rises_at starts.now) }
-{
-    let mut r = 0;
-    while r < rows {
-        if !(starts[r] <= starts[r + 1]) {
-            return false;
-        }
-        r += 1;
-    }
-    true
-}
 
 /// The fourth question.
 pub fn starts_fine(rows: usize, entries: usize, starts: &[usize]) -> bool
     requires { length starts.now ≡ rows + 1 }
     ensures { result ≡ starts_fine rows entries starts.now }
 {
-    (starts[0] == 0) & never_fall(rows, starts) & (starts[rows] == entries)
+    (starts[0] == 0) & starts.is_sorted() & (starts[rows] == entries)
 }
 
 /// Whether the columns but the last are structural, each below the next.
 fn ascending(structurals: usize, columns: &[usize]) -> bool
-    requires { 0 < length columns.now }
     ensures { result ≡ all_below (length columns.now - 1) (column_fine_at structurals columns.now) }
 {
-    let last = columns.len() - 1;
-    let mut k = 0;
-    while k < last {
-        let column = columns[k];
-        if !((column < structurals) & (column < columns[k + 1])) {
-            return false;
-        }
-        k += 1;
-    }
-    true
+    columns.is_sorted_by(|column, next| (*column < structurals) & (*column < *next))
 }
 
 /// The fifth question, of one row.
 fn row_columns_fine(structurals: usize, slack: usize, columns: &[usize]) -> bool
     ensures { result ≡ row_columns_fine structurals slack columns.now }
 {
-    if columns.len() == 0 {
-        return false;
+    match columns {
+        [.., last] => ascending(structurals, columns) & (*last == slack),
+        [] => false,
     }
-    ascending(structurals, columns) & (columns[columns.len() - 1] == slack)
+}
+
+/// A row's part of a list that goes row after row.
+fn row_part<'a, T>(starts: &[usize], row: usize, xs: &'a [T]) -> &'a [T]
+    requires row_in_bounds { row + 1 < length starts.now }
+    requires rises { get_or starts.now row 0 ≤ get_or starts.now (row + 1) 0 }
+    requires inside { get_or starts.now (row + 1) 0 ≤ length xs.now }
+    ensures { result.now ≡ part starts.now row xs.now }
+{
+    &xs[starts[row]..starts[row + 1]]
 }
 
 /// The fifth question.
@@ -62,26 +47,17 @@ pub fn columns_fine(rows: usize, structurals: usize, starts: &[usize], columns: 
     requires rows_bound { structurals + rows < 2 ^ 64 }
     ensures { result ≡ columns_fine rows structurals starts.now columns.now }
 {
-    let mut r = 0;
-    while r < rows {
-        let start = starts[r];
-        let end = starts[r + 1];
-        if !row_columns_fine(structurals, structurals + r, &columns[start..end]) {
-            return false;
-        }
-        r += 1;
-    }
-    true
+    (0..rows).all(|r| row_columns_fine(structurals, structurals + r, row_part(starts, r, columns)))
 }
 
 /// Whether a row's slack entry is 1.
 fn slack_entry_fine(entries: &[f64]) -> bool
     ensures { result ≡ slack_entry_fine entries.now }
 {
-    if entries.len() == 0 {
-        return false;
+    match entries {
+        [.., slack] => *slack == 1.0,
+        [] => false,
     }
-    entries[entries.len() - 1] == 1.0
 }
 
 /// Whether every row's is.
@@ -89,16 +65,7 @@ fn slack_entries_fine(rows: usize, starts: &[usize], entries: &[f64]) -> bool
     requires { RowsLie rows (length entries.now) starts.now }
     ensures { result ≡ all_below rows (slack_entry_fine_at starts.now entries.now) }
 {
-    let mut r = 0;
-    while r < rows {
-        let start = starts[r];
-        let end = starts[r + 1];
-        if !slack_entry_fine(&entries[start..end]) {
-            return false;
-        }
-        r += 1;
-    }
-    true
+    (0..rows).all(|r| slack_entry_fine(row_part(starts, r, entries)))
 }
 
 /// The sixth question.

@@ -40,29 +40,27 @@ pub fn row_activity(
     requires structurals_in_bounds { structurals ≤ length values.now }
     ensures { result ≡ row_activity structurals right_side columns.now entries.now values.now }
 {
-    let mut a = Activity {
+    let start = Activity {
         lhs: 0.0,
         magnitude: abs(right_side),
     };
-    let mut k = 0;
-    while k < columns.len() {
-        a = with_entry(structurals, values, columns[k], entries[k], a);
-        k += 1;
-    }
-    a
+    columns
+        .iter()
+        .zip(entries)
+        .fold(start, |a, (column, coeff)| {
+            with_entry(structurals, values, *column, *coeff, a)
+        })
 }
 
 /// How many of a row's entries are structural: all but the slack's.
 pub fn row_terms(columns: &[usize]) -> usize
     ensures { result ≡ row_terms columns.now }
 {
-    if columns.len() == 0 {
-        return 0;
-    }
-    columns.len() - 1
+    columns.len().saturating_sub(1)
 }
 
 /// How far a row's slack may move past its bound where it is not leaving.
+#[tactic(auto, unfolding(crate::specs::Activity::slack_room))]
 pub fn slack_room(
     structurals: usize,
     feasibility: f64,

@@ -11,16 +11,11 @@ ghost use Rattle.cdouble.specs.Compensated.{pair, plus, plus_scaled, plus_zero};
 use cdouble::CDouble;
 use lent_sums::{cdouble_add, cdouble_add_scaled};
 use std::io;
-use std::io::Read;
 use stored_text::put_double;
-use tables::{Value, double_of, number, read_full};
+use tables::{double_of, each_line, number};
 
-// What a line spells.
-#[derive(Clone, Copy)]
-enum Terms {
-    Are(f64, f64),
-    Bad,
-}
+// Bytes in a line, its end included.
+const LINE: usize = 34;
 
 // The running sums.
 #[derive(Clone, Copy)]
@@ -63,54 +58,28 @@ fn with_pair(s: Sums, a: f64, b: f64) -> Sums
 }
 
 // The two doubles of a line.
-fn read_terms(line: &[u8; 34]) -> Terms {
-    if line[16] != b' ' || line[33] != b'\n' {
-        return Terms::Bad;
+fn read_terms(line: &[u8]) -> Option<(f64, f64)> {
+    if line.get(16) != Some(&b' ') || line.get(33) != Some(&b'\n') {
+        return None;
     }
-    let Value::Is(a) = number(line, 0) else {
-        return Terms::Bad;
-    };
-    let Value::Is(b) = number(line, 17) else {
-        return Terms::Bad;
-    };
-    Terms::Are(double_of(a), double_of(b))
+    let a = number(line, 0)?;
+    let b = number(line, 17)?;
+    Some((double_of(a), double_of(b)))
 }
 
-// The sums with what a line adds to them.
-fn with_line(rt: &impl Print, s: Sums, line: &[u8; 34]) -> io::Result<Sums> {
-    let found = read_terms(line);
-    let Terms::Are(a, b) = found else {
+// Adds to the sums what a line says.
+fn add_line(rt: &impl Print, sums: &mut Sums, line: &[u8]) -> io::Result<()> {
+    let Some((a, b)) = read_terms(line) else {
         rt.write_all(b"not two doubles: ")?;
-        rt.write_all(line)?;
-        return Ok(s);
+        return rt.write_all(line);
     };
-    Ok(with_pair(s, a, b))
-}
-
-// The sums of all lines. A proved loop has to end, and nothing says that the input does. So the loop counts its turns down,
-// from a number that no run uses up. What is left of a line cut short stays 0, so such a line has not the form of one.
-fn read_sums<I: Read, R: Print>(input: &mut I, rt: &R) -> io::Result<Sums> {
-    let zero = CDouble { hi: 0.0, lo: 0.0 };
-    let mut s = Sums {
-        sum: zero,
-        dot: zero,
-    };
-    let mut turns = u64::MAX;
-    while turns > 0 {
-        let mut line = [0u8; 34];
-        let n = read_full(input, &mut line)?;
-        if n == 0 {
-            return Ok(s);
-        }
-        s = with_line(rt, s, &line)?;
-        turns -= 1;
-    }
-    Ok(s)
+    *sums = with_pair(*sums, a, b);
+    Ok(())
 }
 
 // Writes both parts of a sum after its name.
 fn report(rt: &impl Print, name: &str, c: CDouble) -> io::Result<()> {
-    let mut line = [b' '; 34];
+    let mut line = [b' '; LINE];
     line[33] = b'\n';
     put_double(&mut line, 0, c.hi);
     put_double(&mut line, 17, c.lo);
@@ -119,7 +88,12 @@ fn report(rt: &impl Print, name: &str, c: CDouble) -> io::Result<()> {
 }
 
 fn main(rt: HostRuntime) -> io::Result<()> {
-    let s = read_sums(&mut rt.stdin(), &rt)?;
-    report(&rt, "sum ", s.sum)?;
-    report(&rt, "dot ", s.dot)
+    let zero = CDouble { hi: 0.0, lo: 0.0 };
+    let mut sums = Sums {
+        sum: zero,
+        dot: zero,
+    };
+    each_line::<LINE, _, _>(&mut rt.stdin(), |line| add_line(&rt, &mut sums, line))?;
+    report(&rt, "sum ", sums.sum)?;
+    report(&rt, "dot ", sums.dot)
 }

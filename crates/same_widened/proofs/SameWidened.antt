@@ -8,7 +8,11 @@ use lib.Dec.{T, eqb}
 use lib.ListN.{length}
 use lib.Ieee.{lt}
 use borrow.Author.Tests.{eq-eqb, eqb-true}
+use Rattle.std.specs.Prelude.{IfOk, Result, Ok, Err}
 use Rattle.cdouble.specs.Compensated.{plus_zero, value}
+use Rattle.refusal_numbers.specs.declared.Refusal.{Refusal}
+use Rattle.refusal_numbers.specs.Numbers.{numbered}
+use Rattle.refusal_numbers.proofs.Numbers.{ok_says}
 use Rattle.sheet.specs.Sheet.{Sheet, variables}
 use Rattle.sheet.specs.Lengths.{lengths_fit, lengths_fine}
 use Rattle.sheet_answers.specs.Answers.{Accepted, ask, first_no}
@@ -26,34 +30,29 @@ use Rattle.walk.specs.Walk.{onward, walk_over}
 use Rattle.judgement.specs.declared.gap.Proof.{Proof}
 use Rattle.slack_cut.specs.Cut.{cut_at, leaving_slack_cut}
 use Rattle.judgement.specs.Judgement.{judged, judgement}
-use Rattle.kept.specs.Kept.{Lent, after, certificate_of, filled_in, kept, proof_of}
+use Rattle.kept.specs.Kept.{Lent, after, certificate_of, filled_in, proof_of}
 use Rattle.gaps.specs.Rows.{Ranges, kept_of, ranges_of, rows_of}
 use Rattle.gaps.specs.Steps.{outward_gap, outward_of}
 use Rattle.gaps.specs.ThirdDemand.{NoPoint}
 use Rattle.verdict.specs.declared.Verdict.{Verdict}
-use Rattle.verdict.specs.Verdict.{full_verdict, refused_with, verdict, with_outward}
+use Rattle.verdict.specs.Verdict.{full_verdict, verdict, with_outward}
 use Rattle.verdict.proofs.Whole.{Declined}
 use Rattle.same_widened.specs.Interchangeable.{Interchangeable, has_size, with_widened}
 
 -- ---- two sheets that get one number, and one verdict and one meaning of a declined answer where that is 0
 module _ (s other : Sheet) (number : first_no other ≡ first_no s) (full : Accepted s → full_verdict other ≡ full_verdict s) where
-  at_zero : {b : Bool} → eqb (first_no s) 0 ≡ b → cond b (full_verdict other) (refused_with (first_no s)) ≡ cond b (full_verdict s) (refused_with (first_no s))
-  at_zero {b = true} e = full (eqb-true (first_no s) 0 e)
+  at_zero : {b : Bool} → eqb (first_no s) 0 ≡ b → cond b (Ok (full_verdict other)) (Err (first_no s)) ≡ cond b (Ok (full_verdict s)) (Err (first_no s))
+  at_zero {b = true} e = ap Ok (full (eqb-true (first_no s) 0 e))
   at_zero {b = false} e = refl
 
   pub alike_verdict : verdict other ≡ verdict s
   unfolding verdict
   alike_verdict = rw number (at_zero refl)
 
-  none_declined : {b : Bool} → eqb (first_no other) 0 ≡ b → T (cond b (full_verdict other) (refused_with (first_no other))).declined → first_no other ≡ 0
-  none_declined {b = true} e t = eqb-true (first_no other) 0 e
-  none_declined {b = false} e t = absurd t
-
-  pub alike_declined : (Accepted s → (r : Verdict) → Declined other r → Declined s r) → {r : Verdict} → r ≡ verdict other → Declined other r → Declined s r
+  pub alike_declined : (Accepted s → (r : Result Verdict Refusal) → Declined other r → Declined s r) → (r : Result Verdict Refusal) → numbered r ≡ verdict other → Declined other r → Declined s r
   unfolding verdict
-  alike_declined meaning {r} is rules t =
-      let accepted : Accepted s = sym number ∙ none_declined refl (subst (λ (v : Verdict). T v.declined) is t) in
-      meaning accepted r rules t
+  alike_declined meaning (Ok v) is rules = meaning (sym number ∙ (ok_says (first_no other) is).0) (Ok v) rules
+  alike_declined meaning (Err refusal) is rules = tt
 
 -- ---- the same sheet with two lists
 module _ (s : Sheet) (vars ups vars' ups' : List ℕ) where
@@ -107,7 +106,7 @@ module _ (s : Sheet) (vars ups vars' ups' : List ℕ) where
 
       pub full_same : full_verdict other ≡ full_verdict one
       unfolding full_verdict outward_of
-      full_same = λ i. with_outward (kept (proof_same i)) (outward_gap (kept_of one) (rows_of one) (ranges_same i))
+      full_same = λ i. with_outward (proof_same i) (outward_gap (kept_of one) (rows_of one) (ranges_same i))
 
     pub same_verdict : verdict other ≡ verdict one
     same_verdict = alike_verdict one other number_same full_same
@@ -116,7 +115,7 @@ module _ (s : Sheet) (vars ups vars' ups' : List ℕ) where
     unfolding after filled_in certificate_of
     same_after before = rw number_same refl
 
-    pub same_declined : {r : Verdict} → r ≡ verdict other → Declined other r → Declined one r
+    pub same_declined : (r : Result Verdict Refusal) → numbered r ≡ verdict other → Declined other r → Declined one r
     same_declined =
         alike_declined one other number_same full_same
-        (λ accepted r rules. subst (λ (g : Ranges). T r.declined → NoPoint (rows_of one) g) (ranges_same accepted) rules)
+        (λ accepted r rules. subst (λ (g : Ranges). IfOk r (λ v. T v.declined → NoPoint (rows_of one) g)) (ranges_same accepted) rules)

@@ -1,8 +1,7 @@
 -- Document 01, "Questions put to the input", the third. Assumes nothing.
 use Rattle.std.specs.Prelude.{Bool, ◌&&◌, List, ℕ, ◌+◌, leb, eqb, length, Float}
-use Rattle.sheet.specs.declared.answers.Sizes.{Sizes}
 use Rattle.sheet.specs.declared.answers.Outputs.{Outputs}
-use Rattle.sheet.specs.Sheet.{Sheet, sizes_of}
+use Rattle.sheet.specs.Sheet.{Sheet, Sizes, sizes_of}
 
 -- ---- 3. "Does each slice have the length these need, …, second corrections … also when unchecked", those that go by rows and entries
 unfoldable pub rows_fit : ℕ → ℕ → List ℕ → List ℕ → List Float → List Float → List Float → List Float → List Float → List Float → Bool

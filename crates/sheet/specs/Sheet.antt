@@ -2,8 +2,13 @@
 use Rattle.std.specs.Prelude.{List, ℕ, ◌+◌, T, get_or, Float}
 use Rattle.std.specs.Float.{nan, binary64}
 use Rattle.std.specs.Float.Ieee.{fits}
-use Rattle.sheet.specs.declared.answers.Sizes.{Sizes}
 use Rattle.sheet.specs.declared.answers.Outputs.{Outputs}
+
+-- how many rows, structural variables and entries there are
+pub record Sizes : Type 0 where
+  pub rows : ℕ
+  pub structurals : ℕ
+  pub entries : ℕ
 
 pub record Sheet : Type 0 where
   -- how many rows, structural variables and entries there are

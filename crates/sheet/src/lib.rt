@@ -1,7 +1,9 @@
-//! The sheet that the counter lends: its sizes, and the questions of its sizes and lengths.
+//! The sheet that the counter lends, and the questions of its sizes and lengths.
 
 #![tactic(auto)]
 
 mod answers;
+mod lent;
 
-pub use answers::{Outputs, Sizes, lengths_fine, sizes_fine};
+pub use answers::{Outputs, lengths_fine, sizes_fine};
+pub use lent::Sheet;

@@ -1,10 +1,15 @@
 -- The first "no" of document 01's questions, and the sheets that no question refuses. Assumes nothing.
-use Rattle.std.specs.Prelude.{◌≡◌, Bool, true, false, ℕ}
+use Rattle.std.specs.Prelude.{◌≡◌, Bool, true, false, cond, ℕ, Result, Ok, Err}
+use Rattle.refusal_numbers.specs.declared.Refusal.{Refusal}
 use Rattle.sheet.specs.Sheet.{Sheet, variables}
 use Rattle.sheet.specs.Lengths.{lengths_fine}
 use Rattle.questions.specs.Questions.{sizes_fine, all_finite, bounds_fine, tolerances_fine, leaving_row_fine}
 use Rattle.row_questions.specs.Questions.{starts_fine, columns_fine, entries_fine}
 use Rattle.place_questions.specs.Questions.{basis_fine, widened_fine}
+
+-- one question's answer: its refusal where it is no
+abbrev pub answer_to : Bool → Refusal → Result (Unit {0}) Refusal
+answer_to fine refusal = cond fine (Ok tt) (Err refusal)
 
 -- the number n where a question's answer is no, else what the later questions say
 unfoldable pub ask : Bool → ℕ → ℕ → ℕ

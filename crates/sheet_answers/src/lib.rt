@@ -3,101 +3,51 @@
 #![tactic(auto)]
 
 ghost use Rattle.std.specs.Prelude.{◌≡◌};
-ghost use Rattle.sheet.specs.Sheet.{sheet};
-ghost use Rattle.sheet_answers.specs.Answers.{first_no};
-ghost use Rattle.refusal_numbers.specs.Numbers.{number_of};
+ghost use Rattle.sheet.specs.Lent.{lent_sheet};
+ghost use Rattle.sheet_answers.specs.Answers.{answer_to, first_no};
+ghost use Rattle.refusal_numbers.specs.Numbers.{answer_number};
 
 use place_questions::{basis_fine, widened_fine};
 use questions::{all_finite, bounds_fine, leaving_row_fine, tolerances_fine};
 use refusal_numbers::Refusal;
 use row_questions::{columns_fine, entries_fine, starts_fine};
-use sheet::{Outputs, Sizes, lengths_fine, sizes_fine};
+use sheet::{Outputs, Sheet, lengths_fine, sizes_fine};
+
+/// One question: a "no" is its refusal.
+fn refuse_unless(fine: bool, refusal: Refusal) -> Result<(), Refusal>
+    ensures { result ≡ answer_to fine refusal }
+{
+    if fine { Ok(()) } else { Err(refusal) }
+}
 
 /// The first question, from the second on, whose answer is no.
-pub fn first_no(
-    sizes: Sizes,
-    feasibility: f64,
-    checked: u8,
-    leaving_row: usize,
-    leaving_up: u8,
-    outputs: Outputs,
-    starts: &[usize],
-    columns: &[usize],
-    entries: &[f64],
-    right_sides: &[f64],
-    scales: &[f64],
-    integer: &[u8],
-    mins: &[f64],
-    maxs: &[f64],
-    low_tolerances: &[f64],
-    high_tolerances: &[f64],
-    basic: &[u8],
-    places: &[usize],
-    values: &[f64],
-    widened_vars: &[usize],
-    widened_ups: &[u8],
-    rho_hi: &[f64],
-    rho_lo: &[f64],
-    second: &[f64],
-) -> Refusal
-    ensures { number_of result ≡ first_no (sheet sizes feasibility checked leaving_row leaving_up outputs starts.now columns.now entries.now right_sides.now scales.now integer.now mins.now maxs.now low_tolerances.now high_tolerances.now basic.now places.now values.now widened_vars.now widened_ups.now rho_hi.now rho_lo.now second.now) }
+pub fn first_no(s: &Sheet, outputs: Outputs) -> Result<(), Refusal>
+    ensures { answer_number result ≡ first_no (lent_sheet s.now outputs) }
 {
-    let rows = sizes.rows;
-    let structurals = sizes.structurals;
-    let entry_count = sizes.entries;
-    if !sizes_fine(sizes) {
-        return Refusal::Sizes;
-    }
-    if !lengths_fine(
-        sizes,
-        outputs,
-        starts,
-        columns,
-        entries,
-        right_sides,
-        scales,
-        integer,
-        mins,
-        maxs,
-        low_tolerances,
-        high_tolerances,
-        basic,
-        places,
-        values,
-        widened_vars,
-        widened_ups,
-        rho_hi,
-        rho_lo,
-        second,
-    ) {
-        return Refusal::Lengths;
-    }
-    if !starts_fine(rows, entry_count, starts) {
-        return Refusal::RowStarts;
-    }
-    if !columns_fine(rows, structurals, starts, columns) {
-        return Refusal::Columns;
-    }
-    if !entries_fine(rows, starts, entries, right_sides) {
-        return Refusal::Entries;
-    }
-    if !bounds_fine(mins, maxs) {
-        return Refusal::Bounds;
-    }
-    if !tolerances_fine(feasibility, scales, low_tolerances, high_tolerances) {
-        return Refusal::Tolerances;
-    }
-    if !basis_fine(rows, basic, places) {
-        return Refusal::Basis;
-    }
-    if !all_finite(values) {
-        return Refusal::Values;
-    }
-    if !widened_fine(structurals + rows, widened_vars, widened_ups) {
-        return Refusal::Widened;
-    }
-    if !leaving_row_fine(rows, leaving_row) {
-        return Refusal::LeavingRow;
-    }
-    Refusal::None
+    refuse_unless(sizes_fine(s), Refusal::Sizes)?;
+    refuse_unless(lengths_fine(s, outputs), Refusal::Lengths)?;
+    refuse_unless(
+        starts_fine(s.rows, s.entry_count, s.starts),
+        Refusal::RowStarts,
+    )?;
+    refuse_unless(
+        columns_fine(s.rows, s.structurals, s.starts, s.columns),
+        Refusal::Columns,
+    )?;
+    refuse_unless(
+        entries_fine(s.rows, s.starts, s.entries, s.right_sides),
+        Refusal::Entries,
+    )?;
+    refuse_unless(bounds_fine(s.mins, s.maxs), Refusal::Bounds)?;
+    refuse_unless(
+        tolerances_fine(s.feasibility, s.scales, s.low_tolerances, s.high_tolerances),
+        Refusal::Tolerances,
+    )?;
+    refuse_unless(basis_fine(s.rows, s.basic, s.places), Refusal::Basis)?;
+    refuse_unless(all_finite(s.values), Refusal::Values)?;
+    refuse_unless(
+        widened_fine(s.structurals + s.rows, s.widened_variables, s.widened_ups),
+        Refusal::Widened,
+    )?;
+    refuse_unless(leaving_row_fine(s.rows, s.leaving_row), Refusal::LeavingRow)
 }

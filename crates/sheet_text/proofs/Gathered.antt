@@ -2,9 +2,12 @@
 use mathlib.Core.Path.{◌≡◌}
 use mathlib.Core.List.{List}
 use Prim.Native.Nat.{ℕ, ◌+◌}
-use Rattle.text_words.specs.declared.Choice.{Choice}
+use mathlib.Core.Bool.{Bool}
+use mir.Val.{bool_byte}
+use Rattle.std.specs.Prelude.{Option}
+use Rattle.text_words.specs.declared.Item.{Item}
 use Rattle.text_heading.specs.declared.heading.Heading.{Heading}
-use Rattle.text_sides.specs.declared.sided_lines.LeaveLine.{LeaveLine}
+use Rattle.text_sides.specs.declared.sided_lines.SidedLine.{SidedLine}
 use Rattle.text_heading.specs.Lines.{heading}
 use Rattle.text_multipliers.specs.Lines.{multipliers_line}
 use Rattle.text_sides.specs.Lines.{leave_line}
@@ -18,7 +21,7 @@ use Rattle.sheet_text.specs.Parts.{rho_lines_in, leave_in}
 use Rattle.sheet_text.specs.Form.{read_in}
 
 -- what the code reads, in its order
-pub record Gathered (text : List ℕ) (head : Heading) (from : ℕ) (rows widened : Reached) (checked : Choice) (last : ℕ) (leave : LeaveLine) : Type 0 where
+pub record Gathered (text : List ℕ) (head : Heading) (from : Option ℕ) (rows widened : Reached) (checked : Item Bool) (last : Option ℕ) (leave : SidedLine) : Type 0 where
   pub head_is : head ≡ heading text
   pub from_is : from ≡ variable_lines_end text head.structurals (head.structurals + head.rows) head.next
   pub rows_reach : rows ≡ rows_reached text head.rows from
@@ -27,16 +30,16 @@ pub record Gathered (text : List ℕ) (head : Heading) (from : ℕ) (rows widene
   pub last_is : last ≡ rho_lines_end text checked.value head.rows checked.next
   pub leave_is : leave ≡ leave_line text last
 
-module _ {text : List ℕ} {head : Heading} {from : ℕ} {rows widened : Reached} {checked : Choice} {last : ℕ} {leave : LeaveLine} (g : Gathered text head from rows widened checked last leave) where
+module _ {text : List ℕ} {head : Heading} {from : Option ℕ} {rows widened : Reached} {checked : Item Bool} {last : Option ℕ} {leave : SidedLine} (g : Gathered text head from rows widened checked last leave) where
   pub read_is : record {
     rows = head.rows;
     structurals = head.structurals;
     entries = rows.count;
     widened = widened.count;
     feasibility = head.feasibility;
-    checked = checked.value;
-    leaving_row = leave.row;
-    leaving_up = leave.up;
+    checked = bool_byte checked.value;
+    leaving_row = leave.number;
+    leaving_up = bool_byte leave.up;
     next = leave.next;
   } ≡ read_in text
   unfolding read_in rows_from rows_reached_in widened_reached_in multipliers_in leave_in

@@ -3,9 +3,11 @@ use mathlib.Core.Path.{◌≡◌, refl, sym, ap, ◌∙◌, subst}
 use mathlib.Core.Bool.{true}
 use mathlib.Core.List.{List, ◌∷◌, map}
 use Prim.Native.Nat.{ℕ, ◌+◌, ◌≤◌}
+use native.Mathlib.Omega.{arith}
 use borrow.Author.Tests.{leb-true, eqb-true}
 use lib.Dec.{leb, eqb}
 use lib.ListN.{length, get_or, take}
+use Rattle.std.specs.Prelude.{Option, None, Some}
 use Rattle.questions.proofs.All.{and_left, and_right}
 use Rattle.repeats.specs.Filled.{column, filled_from}
 use Rattle.repeats.proofs.Fronts.{whole_front, behind_first}
@@ -62,10 +64,17 @@ module _ (text : List ℕ) where
   form_is = refl
 
   -- a text that follows the form is short enough, and its last line ends where it does
+  form_holds : (next : Option ℕ) → form_met (length text) next ≡ true → (length text ≤ most_bytes) × (next ≡ Some (length text))
+  form_holds None e = let z : ◌≡◌ {A = ℕ} 0 1 = cc in absurd (omega arith)
+  form_holds (Some n) e = (
+    leb-true (length text) most_bytes (and_left (leb (length text) most_bytes) (eqb n (length text)) e),
+    ap Some (eqb-true n (length text) (and_right (leb (length text) most_bytes) (eqb n (length text)) e)),
+  )
+
   pub form_short : follows_form text ≡ true → length text ≤ most_bytes
   unfolding follows_form
-  form_short e = leb-true (length text) most_bytes (and_left (leb (length text) most_bytes) (eqb (read_in text).next (length text)) e)
+  form_short e = (form_holds (read_in text).next e).0
 
-  pub form_ends : follows_form text ≡ true → (read_in text).next ≡ length text
+  pub form_ends : follows_form text ≡ true → (read_in text).next ≡ Some (length text)
   unfolding follows_form
-  form_ends e = eqb-true (read_in text).next (length text) (and_right (leb (length text) most_bytes) (eqb (read_in text).next (length text)) e)
+  form_ends e = (form_holds (read_in text).next e).1

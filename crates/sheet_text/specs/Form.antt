@@ -1,5 +1,6 @@
 -- Whether a text follows the sheet form: document 01, the first question. Assumes nothing.
-use Rattle.std.specs.Prelude.{Bool, ◌&&◌, List, ℕ, leb, eqb, length}
+use Rattle.std.specs.Prelude.{Bool, false, ◌&&◌, List, ℕ, Option, None, Some, leb, eqb, length}
+use mir.Val.{bool_byte}
 use Rattle.text_words.specs.Words.{most_bytes}
 use Rattle.text_heading.specs.Lines.{heading}
 use Rattle.sheet_text.specs.declared.Read.{Read}
@@ -14,15 +15,16 @@ read_in text =
       entries = (rows_reached_in text).count;
       widened = (widened_reached_in text).count;
       feasibility = (heading text).feasibility;
-      checked = (multipliers_in text).value;
-      leaving_row = (leave_in text).row;
-      leaving_up = (leave_in text).up;
+      checked = bool_byte (multipliers_in text).value;
+      leaving_row = (leave_in text).number;
+      leaving_up = bool_byte (leave_in text).up;
       next = (leave_in text).next;
     }
 
--- the first question's answer from a text's length and the position after its last line
-abbrev pub form_met : ℕ → ℕ → Bool
-form_met length next = leb length most_bytes && eqb next length
+-- the first question's answer from a text's length and the position after its last line, if there is one
+abbrev pub form_met : ℕ → Option ℕ → Bool
+form_met length None = false
+form_met length (Some next) = leb length most_bytes && eqb next length
 
 -- ---- 1. "Does the file follow the sheet form, in at most 65,536 bytes?": its last line ends where the text does
 unfoldable pub follows_form : List ℕ → Bool

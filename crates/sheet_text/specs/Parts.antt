@@ -1,10 +1,9 @@
 -- The parts of a text, "lines in the example's order": document 01, "The sheet". Each begins where the one before it ends. Assumes nothing.
-use Rattle.std.specs.Prelude.{List, ℕ, ◌+◌}
-use Rattle.text_words.specs.declared.Choice.{Choice}
+use Rattle.std.specs.Prelude.{List, ℕ, ◌+◌, Bool, Option}
+use Rattle.text_words.specs.declared.Item.{Item}
 use Rattle.text_variable_line.specs.declared.variable_lines.VariableLine.{VariableLine}
 use Rattle.text_rows.specs.declared.row_items.Pair.{Pair}
-use Rattle.text_sides.specs.declared.sided_lines.WidenedLine.{WidenedLine}
-use Rattle.text_sides.specs.declared.sided_lines.LeaveLine.{LeaveLine}
+use Rattle.text_sides.specs.declared.sided_lines.SidedLine.{SidedLine}
 use Rattle.text_multipliers.specs.declared.multiplier_lines.RhoLine.{RhoLine}
 use Rattle.text_heading.specs.Lines.{heading}
 use Rattle.text_multipliers.specs.Lines.{multipliers_line}
@@ -24,7 +23,7 @@ unfoldable pub variable_lines_in : List ℕ → List VariableLine
 variable_lines_in text = let head = heading text in variable_lines text head.structurals (head.structurals + head.rows) head.next
 
 -- ---- "row … lines (rows each, in row order)": where they begin, the lines, their pairs, and how far they reach
-unfoldable pub rows_from : List ℕ → ℕ
+unfoldable pub rows_from : List ℕ → Option ℕ
 rows_from text = let head = heading text in variable_lines_end text head.structurals (head.structurals + head.rows) head.next
 
 unfoldable pub row_lines_in : List ℕ → List RowLine
@@ -37,19 +36,19 @@ unfoldable pub rows_reached_in : List ℕ → Reached
 rows_reached_in text = rows_reached text (heading text).rows (rows_from text)
 
 -- ---- "`(widened J up)` or `down` lines follow the rows"
-unfoldable pub widened_lines_in : List ℕ → List WidenedLine
+unfoldable pub widened_lines_in : List ℕ → List SidedLine
 widened_lines_in text = widened_lines text (rows_reached_in text).next
 
 unfoldable pub widened_reached_in : List ℕ → Reached
 widened_reached_in text = widened_reached text (rows_reached_in text).next
 
 -- ---- whether the multipliers are checked, and the "rho lines (rows each, in row order)"
-unfoldable pub multipliers_in : List ℕ → Choice
+unfoldable pub multipliers_in : List ℕ → Item Bool
 multipliers_in text = multipliers_line text (widened_reached_in text).next
 
 unfoldable pub rho_lines_in : List ℕ → List RhoLine
 rho_lines_in text = let checked = multipliers_in text in rho_lines text checked.value (heading text).rows checked.next
 
 -- ---- the leaving row's line, the last
-unfoldable pub leave_in : List ℕ → LeaveLine
+unfoldable pub leave_in : List ℕ → SidedLine
 leave_in text = let checked = multipliers_in text in leave_line text (rho_lines_end text checked.value (heading text).rows checked.next)

@@ -1,11 +1,12 @@
 -- The sheet that a text says: document 01, "The sheet". Assumes nothing.
 use Rattle.std.specs.Prelude.{List, ◌∷◌, map, ℕ, ◌+◌}
+use mir.Val.{bool_byte}
 use Rattle.questions.specs.Limits.{most_rows, most_structurals}
 use Rattle.sheet.specs.declared.answers.Outputs.{Outputs}
 use Rattle.sheet.specs.Sheet.{Sheet, sheet}
 use Rattle.text_variable_line.specs.declared.variable_lines.VariableLine.{VariableLine}
 use Rattle.text_rows.specs.declared.row_items.Pair.{Pair}
-use Rattle.text_sides.specs.declared.sided_lines.WidenedLine.{WidenedLine}
+use Rattle.text_sides.specs.declared.sided_lines.SidedLine.{SidedLine}
 use Rattle.text_multipliers.specs.declared.multiplier_lines.RhoLine.{RhoLine}
 use Rattle.text_lists.specs.declared.row_lists.RowLine.{RowLine}
 use Rattle.sheet_text.specs.Parts.{structural_lines_in, variable_lines_in, row_lines_in, pairs_in, widened_lines_in, rho_lines_in}
@@ -43,16 +44,16 @@ sheet_in text =
     (map (λ (item : Pair). item.entry) pairs)
     (map (λ (row : RowLine). row.right) rows)
     (map (λ (row : RowLine). row.scale) rows)
-    (map (λ (line : VariableLine). line.integer) (structural_lines_in text))
+    (map (λ (line : VariableLine). bool_byte line.integer) (structural_lines_in text))
     (map (λ (line : VariableLine). line.min) variables)
     (map (λ (line : VariableLine). line.max) variables)
     (map (λ (line : VariableLine). line.low) variables)
     (map (λ (line : VariableLine). line.high) variables)
-    (map (λ (line : VariableLine). line.basic) variables)
+    (map (λ (line : VariableLine). bool_byte line.basic) variables)
     (map (λ (line : VariableLine). line.place) variables)
     (map (λ (line : VariableLine). line.value) variables)
-    (map (λ (line : WidenedLine). line.variable) widened)
-    (map (λ (line : WidenedLine). line.up) widened)
+    (map (λ (line : SidedLine). line.number) widened)
+    (map (λ (line : SidedLine). bool_byte line.up) widened)
     (map (λ (line : RhoLine). line.hi) rhos)
     (map (λ (line : RhoLine). line.lo) rhos)
     (map (λ (line : RhoLine). line.second) rhos)

@@ -1,12 +1,15 @@
 //! The sheet as a text: whether it follows the form of document 01, and the sheet that it says, read into lent slices.
 
+// Kept: the lists go to eighteen slices: in a struct of `&mut` slices each needs a second clause, that the field is still the same reference.
+
 #![tactic(auto)]
 
 ghost use Rattle.std.specs.Prelude.{◌≡◌};
+ghost use mir.Val.{bool_byte};
 ghost use Rattle.repeats.specs.Filled.{column, filled_from};
 ghost use Rattle.text_variable_line.specs.declared.variable_lines.VariableLine.{VariableLine};
 ghost use Rattle.text_rows.specs.declared.row_items.Pair.{Pair};
-ghost use Rattle.text_sides.specs.declared.sided_lines.WidenedLine.{WidenedLine};
+ghost use Rattle.text_sides.specs.declared.sided_lines.SidedLine.{SidedLine};
 ghost use Rattle.text_multipliers.specs.declared.multiplier_lines.RhoLine.{RhoLine};
 ghost use Rattle.text_lists.specs.declared.row_lists.RowLine.{RowLine};
 ghost use Rattle.sheet_text.specs.Parts.{structural_lines_in, variable_lines_in, row_lines_in, pairs_in, widened_lines_in, rho_lines_in};
@@ -34,7 +37,7 @@ pub struct Read {
     /// 1 if it leaves up, else 0.
     pub leaving_up: u8,
     /// The position after the last line.
-    pub next: usize,
+    pub next: Option<usize>,
 }
 
 /// The sheet that a text says. Each list goes to a slice, from its front on; a slice that is shorter holds the front of its
@@ -67,16 +70,16 @@ pub fn read_sheet(
     ensures entries_after { entries.new ≡ column (λ (item : Pair). item.entry) (pairs_in text.now) entries.old }
     ensures right_sides_after { right_sides.new ≡ column (λ (row : RowLine). row.right) (row_lines_in text.now) right_sides.old }
     ensures scales_after { scales.new ≡ column (λ (row : RowLine). row.scale) (row_lines_in text.now) scales.old }
-    ensures integer_after { integer.new ≡ column (λ (line : VariableLine). line.integer) (structural_lines_in text.now) integer.old }
+    ensures integer_after { integer.new ≡ column (λ (line : VariableLine). bool_byte line.integer) (structural_lines_in text.now) integer.old }
     ensures mins_after { mins.new ≡ column (λ (line : VariableLine). line.min) (variable_lines_in text.now) mins.old }
     ensures maxs_after { maxs.new ≡ column (λ (line : VariableLine). line.max) (variable_lines_in text.now) maxs.old }
     ensures low_tolerances_after { low_tolerances.new ≡ column (λ (line : VariableLine). line.low) (variable_lines_in text.now) low_tolerances.old }
     ensures high_tolerances_after { high_tolerances.new ≡ column (λ (line : VariableLine). line.high) (variable_lines_in text.now) high_tolerances.old }
-    ensures basic_after { basic.new ≡ column (λ (line : VariableLine). line.basic) (variable_lines_in text.now) basic.old }
+    ensures basic_after { basic.new ≡ column (λ (line : VariableLine). bool_byte line.basic) (variable_lines_in text.now) basic.old }
     ensures places_after { places.new ≡ column (λ (line : VariableLine). line.place) (variable_lines_in text.now) places.old }
     ensures values_after { values.new ≡ column (λ (line : VariableLine). line.value) (variable_lines_in text.now) values.old }
-    ensures widened_vars_after { widened_vars.new ≡ column (λ (line : WidenedLine). line.variable) (widened_lines_in text.now) widened_vars.old }
-    ensures widened_ups_after { widened_ups.new ≡ column (λ (line : WidenedLine). line.up) (widened_lines_in text.now) widened_ups.old }
+    ensures widened_vars_after { widened_vars.new ≡ column (λ (line : SidedLine). line.number) (widened_lines_in text.now) widened_vars.old }
+    ensures widened_ups_after { widened_ups.new ≡ column (λ (line : SidedLine). bool_byte line.up) (widened_lines_in text.now) widened_ups.old }
     ensures rho_hi_after { rho_hi.new ≡ column (λ (line : RhoLine). line.hi) (rho_lines_in text.now) rho_hi.old }
     ensures rho_lo_after { rho_lo.new ≡ column (λ (line : RhoLine). line.lo) (rho_lines_in text.now) rho_lo.old }
     ensures second_after { second.new ≡ column (λ (line : RhoLine). line.second) (rho_lines_in text.now) second.old }
@@ -125,16 +128,16 @@ pub fn read_sheet(
         entries: rows.count,
         widened: widened.count,
         feasibility: head.feasibility,
-        checked: multipliers.value,
-        leaving_row: leave.row,
-        leaving_up: leave.up,
+        checked: u8::from(multipliers.value),
+        leaving_row: leave.number,
+        leaving_up: u8::from(leave.up),
         next: leave.next,
     }
 }
 
-/// The answer to the first question, of a text with `length` bytes whose last line ends at the position `next`.
-pub fn follows_form(length: usize, next: usize) -> bool
+/// The answer to the first question, of a text with `length` bytes whose last line ends at the position `next`, if it does.
+pub fn follows_form(length: usize, next: Option<usize>) -> bool
     ensures { result ≡ form_met length next }
 {
-    length <= MOST_BYTES && next == length
+    length <= MOST_BYTES && next == Some(length)
 }

@@ -5,6 +5,9 @@ use mathlib.Core.List.{List}
 use Prim.Native.Nat.{ℕ, ◌+◌, ◌≤◌}
 use lib.ListN.{take}
 use borrow.Author.Tests.{le-leb}
+use Rattle.std.specs.Prelude.{Result}
+use Rattle.refusal_numbers.specs.declared.Refusal.{Refusal}
+use Rattle.refusal_numbers.specs.Numbers.{numbered}
 use Rattle.questions.specs.Limits.{most_rows, most_structurals}
 use Rattle.place_questions.specs.Questions.{widened_fine}
 use Rattle.variable_kinds.specs.Variables.{is_widened}
@@ -62,16 +65,16 @@ module _ (s : Sheet) (list : List Widened) where
             ∙ listed_held count front few (front_fine count list few ∙ passes) v up;
       }
 
-  pub entry_says : (before : Lent) {f : Found} {now : Lent} {r : Verdict} → f ≡ found
-      → (r ≡ verdict (with_found f s)) × ((now ≡ after (with_found f s) before) × Declined (with_found f s) r)
-      → (r ≡ verdict (with_widened (variables_of list) (ups_of list) s))
+  pub entry_says : (before : Lent) {f : Found} {now : Lent} (r : Result Verdict Refusal) → f ≡ found
+      → (numbered r ≡ verdict (with_found f s)) × ((now ≡ after (with_found f s) before) × Declined (with_found f s) r)
+      → (numbered r ≡ verdict (with_widened (variables_of list) (ups_of list) s))
       × ((now ≡ after (with_widened (variables_of list) (ups_of list) s) before) × Declined (with_widened (variables_of list) (ups_of list) s) r)
-  entry_says before {f} {now} {r} is says =
-      let facts : (r ≡ verdict (with_found found s)) × ((now ≡ after (with_found found s) before) × Declined (with_found found s) r) =
-      subst (λ (x : Found). (r ≡ verdict (with_found x s)) × ((now ≡ after (with_found x s) before) × Declined (with_found x s) r)) is says in (
+  entry_says before {f} {now} r is says =
+      let facts : (numbered r ≡ verdict (with_found found s)) × ((now ≡ after (with_found found s) before) × Declined (with_found found s) r) =
+      subst (λ (x : Found). (numbered r ≡ verdict (with_found x s)) × ((now ≡ after (with_found x s) before) × Declined (with_found x s) r)) is says in (
         facts.0 ∙ same_verdict s _ _ _ _ found_interchangeable,
         (
           facts.1.0 ∙ same_after s _ _ _ _ found_interchangeable before,
-          same_declined s _ _ _ _ found_interchangeable facts.0 facts.1.1,
+          same_declined s _ _ _ _ found_interchangeable r facts.0 facts.1.1,
         ),
       )

@@ -3,12 +3,13 @@
 #![tactic(auto)]
 
 ghost use Rattle.std.specs.Prelude.{◌≡◌, ◌≤◌};
-ghost use Rattle.variable_bounds.specs.Model.{model};
+ghost use Rattle.variable_bounds.specs.Model.{lent_model};
 ghost use Rattle.slack_cut.specs.Cut.{cut_at, cut_of, leaving_slack_cut};
 ghost use Rattle.slack_cut.specs.Reads.{LeavingFits};
 
 use double_bits::{abs, is_finite, min};
 use row_values::{row_activity, row_terms};
+use sheet::Sheet;
 use tolerances::{BoundTols, implied_slack_error, slack_margin};
 
 /// The round-off withheld from the room of a leaving slack of this value.
@@ -31,49 +32,29 @@ fn cut_of(
 }
 
 /// The round-off withheld from the room of the leaving slack, whose room ends at `end`.
-fn leaving_slack_cut(
-    structurals: usize,
-    feasibility: f64,
-    starts: &[usize],
-    columns: &[usize],
-    entries: &[f64],
-    right_sides: &[f64],
-    scales: &[f64],
-    integer: &[u8],
-    mins: &[f64],
-    maxs: &[f64],
-    low_tolerances: &[f64],
-    high_tolerances: &[f64],
-    values: &[f64],
-    widened_vars: &[usize],
-    widened_ups: &[u8],
-    leaving: usize,
-    end: f64,
-    sums: f64,
-    gap: f64,
-) -> f64
-    requires structurals_le_leaving { structurals ≤ leaving }
-    requires leaving_fits { LeavingFits (model structurals feasibility starts.now columns.now entries.now right_sides.now scales.now integer.now mins.now maxs.now low_tolerances.now high_tolerances.now values.now widened_vars.now widened_ups.now) leaving }
-    ensures { result ≡ leaving_slack_cut (model structurals feasibility starts.now columns.now entries.now right_sides.now scales.now integer.now mins.now maxs.now low_tolerances.now high_tolerances.now values.now widened_vars.now widened_ups.now) leaving end sums gap }
+#[tactic(auto, unfolding(row_questions::specs::Rows::part, crate::specs::Cut::leaving_slack_cut))]
+fn leaving_slack_cut(s: &Sheet, leaving: usize, end: f64, sums: f64, gap: f64) -> f64
+    requires structurals_le_leaving { s.now.structurals ≤ leaving }
+    requires leaving_fits { LeavingFits (lent_model s.now) leaving }
+    ensures { result ≡ leaving_slack_cut (lent_model s.now) leaving end sums gap }
 {
-    let r = leaving - structurals;
-    let first = starts[r];
-    let last = starts[r + 1];
-    let row_columns = &columns[first..last];
-    let row_entries = &entries[first..last];
+    let r = leaving - s.structurals;
+    let first = s.starts[r];
+    let last = s.starts[r + 1];
+    let row_columns = &s.columns[first..last];
     let a = row_activity(
-        structurals,
-        right_sides[r],
+        s.structurals,
+        s.right_sides[r],
         row_columns,
-        row_entries,
-        values,
+        &s.entries[first..last],
+        s.values,
     );
-    let tol = feasibility * scales[r];
+    let tol = s.feasibility * s.scales[r];
     cut_of(
         tol,
         a.magnitude,
         row_terms(row_columns),
-        values[leaving],
+        s.values[leaving],
         end,
         sums,
         gap,
@@ -81,55 +62,14 @@ fn leaving_slack_cut(
 }
 
 /// That, where the leaving variable is a slack and the gap finite.
-pub fn cut_at(
-    structurals: usize,
-    feasibility: f64,
-    starts: &[usize],
-    columns: &[usize],
-    entries: &[f64],
-    right_sides: &[f64],
-    scales: &[f64],
-    integer: &[u8],
-    mins: &[f64],
-    maxs: &[f64],
-    low_tolerances: &[f64],
-    high_tolerances: &[f64],
-    values: &[f64],
-    widened_vars: &[usize],
-    widened_ups: &[u8],
-    leaving: usize,
-    end: f64,
-    sums: f64,
-    gap: f64,
-) -> f64
-    requires { LeavingFits (model structurals feasibility starts.now columns.now entries.now right_sides.now scales.now integer.now mins.now maxs.now low_tolerances.now high_tolerances.now values.now widened_vars.now widened_ups.now) leaving }
-    ensures { result ≡ cut_at (model structurals feasibility starts.now columns.now entries.now right_sides.now scales.now integer.now mins.now maxs.now low_tolerances.now high_tolerances.now values.now widened_vars.now widened_ups.now) leaving end sums gap }
+#[tactic(auto, unfolding(crate::specs::Cut::cut_at))]
+pub fn cut_at(s: &Sheet, leaving: usize, end: f64, sums: f64, gap: f64) -> f64
+    requires { LeavingFits (lent_model s.now) leaving }
+    ensures { result ≡ cut_at (lent_model s.now) leaving end sums gap }
 {
-    if leaving < structurals {
-        return 0.0;
+    if s.structurals <= leaving && is_finite(gap) {
+        leaving_slack_cut(s, leaving, end, sums, gap)
+    } else {
+        0.0
     }
-    if !is_finite(gap) {
-        return 0.0;
-    }
-    leaving_slack_cut(
-        structurals,
-        feasibility,
-        starts,
-        columns,
-        entries,
-        right_sides,
-        scales,
-        integer,
-        mins,
-        maxs,
-        low_tolerances,
-        high_tolerances,
-        values,
-        widened_vars,
-        widened_ups,
-        leaving,
-        end,
-        sums,
-        gap,
-    )
 }

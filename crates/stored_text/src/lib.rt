@@ -7,7 +7,8 @@ ghost use Rattle.std.specs.Prelude.{◌≡◌, ℕ, ◌+◌, ◌≤◌, length};
 ghost use Rattle.stored_text.specs.Digits.{hexadecimal, decimal, digit_count};
 ghost use Rattle.stored_text.specs.Stored.{Stored};
 
-use numerals::{bits_of, digit_count, put_byte, put_digits};
+use hex_digits::bits_of;
+use numerals::{digit_count, put_byte, put_digits};
 
 mod numerals;
 
@@ -17,12 +18,10 @@ pub fn put_text(x: &mut [u8], from: usize, text: &[u8]) -> usize
     ensures stored { Stored x.old x.new from result text.now }
     ensures value { result ≡ from + length text.now }
 {
-    let mut i = 0;
-    while i < text.len() {
-        put_byte(x, from + i, text[i]);
-        i += 1;
+    for (i, byte) in text.iter().enumerate() {
+        put_byte(x, from + i, *byte);
     }
-    from + i
+    from + text.len()
 }
 
 /// Puts a double's 16 digits.

@@ -5,8 +5,8 @@ ghost use Rattle.text_words.specs.Text.{bytes};
 ghost use Rattle.text_items.specs.Items.{double_then};
 
 use text_items::{count_then, double_then};
-use text_numbers::Double;
 use text_spaced::count_after;
+use text_words::Item;
 
 /// `(sheet ROWS STRUCTURALS)` and `(feasibility FEASIBILITY)`.
 #[derive(Clone, Copy)]
@@ -15,14 +15,14 @@ pub struct Heading {
     pub structurals: usize,
     pub feasibility: f64,
     /// The position after them.
-    pub next: usize,
+    pub next: Option<usize>,
 }
 
 /// The first two lines of a text.
 pub fn heading_lines(text: &[u8]) -> Heading
     ensures { result ≡ heading text.now }
 {
-    let rows = count_after(text, 0, b"(sheet ");
+    let rows = count_after(text, Some(0), b"(sheet ");
     let structurals = count_then(text, rows.next, b")\n(feasibility ");
     let feasibility = double_last(text, structurals.next);
     Heading {
@@ -34,7 +34,7 @@ pub fn heading_lines(text: &[u8]) -> Heading
 }
 
 // A double that ends a line.
-fn double_last(text: &[u8], position: usize) -> Double
+fn double_last(text: &[u8], position: Option<usize>) -> Item<f64>
     ensures { result ≡ double_then text.now position (bytes ")\n") }
 {
     double_then(text, position, b")\n")

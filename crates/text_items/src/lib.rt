@@ -5,27 +5,19 @@
 ghost use Rattle.std.specs.Prelude.{◌≡◌};
 ghost use Rattle.text_items.specs.Items.{double_then, count_then};
 
-use text_numbers::{Count, Double, count_at, double_at};
-use text_words::expect;
+use text_numbers::{count_at, double_at};
+use text_words::Item;
 
 /// A double and the word after it.
-pub fn double_then(text: &[u8], position: usize, word: &[u8]) -> Double
+pub fn double_then(text: &[u8], position: Option<usize>, word: &[u8]) -> Item<f64>
     ensures { result ≡ double_then text.now position word.now }
 {
-    let double = double_at(text, position);
-    Double {
-        value: double.value,
-        next: expect(text, double.next, word),
-    }
+    double_at(text, position).then(text, word)
 }
 
 /// A count and the word after it.
-pub fn count_then(text: &[u8], position: usize, word: &[u8]) -> Count
+pub fn count_then(text: &[u8], position: Option<usize>, word: &[u8]) -> Item<usize>
     ensures { result ≡ count_then text.now position word.now }
 {
-    let count = count_at(text, position);
-    Count {
-        value: count.value,
-        next: expect(text, count.next, word),
-    }
+    count_at(text, position).then(text, word)
 }

@@ -2,6 +2,7 @@
 use mathlib.Core.Path.{◌≡◌, refl, ap, ◌∙◌}
 use mathlib.Core.List.{List}
 use Prim.Native.Nat.{ℕ, ◌+◌}
+use Rattle.std.specs.Prelude.{Option}
 use native.Mathlib.Omega.{arith}
 use lib.ListN.{length}
 use Rattle.repeats.specs.Chained.{chain_end}
@@ -15,19 +16,19 @@ use Rattle.text_lists.specs.declared.row_lists.RowLine.{RowLine}
 use Rattle.text_lists.specs.Widened.{after_widened, widened_lines, widened_reached}
 use Rattle.text_lists.specs.Rows.{pairs, pairs_end, pairs_reached, row_pairs, row_line, row_at, after_row, pairs_at, no_pair_yet, rows_pairs, rows_reached}
 
-pub widened_reached_lem : (text : List ℕ) (position : ℕ) {count next : ℕ} → count ≡ 0 + length (widened_lines text position)
+pub widened_reached_lem : (text : List ℕ) (position : Option ℕ) {count : ℕ} {next : Option ℕ} → count ≡ 0 + length (widened_lines text position)
     → next ≡ chain_end (no_widened text) (widened_line text) after_widened most_bytes position → record { count = count; next = next } ≡ widened_reached text position
 unfolding widened_reached
 widened_reached_lem text position h e = let k : 0 + length (widened_lines text position) ≡ length (widened_lines text position) = omega arith in rw (h, e, k)
 
-pub pairs_reached_lem : (text : List ℕ) (first position : ℕ) {count next : ℕ} → count ≡ first + length (pairs text first position)
+pub pairs_reached_lem : (text : List ℕ) (first : ℕ) (position : Option ℕ) {count : ℕ} {next : Option ℕ} → count ≡ first + length (pairs text first position)
     → next ≡ pairs_end text first position → record { count = count; next = next } ≡ pairs_reached text first position
 unfolding pairs_reached
 pairs_reached_lem text first position h e = rw (h, e)
 
 -- the line of a row, from its parts as the code reads them
-module _ (text : List ℕ) (first position : ℕ) {head : RowHead} (h : head ≡ row_head text position) where
-  pub row_line_is : {reached : Reached} {next : ℕ} → reached ≡ pairs_reached text first head.next → next ≡ row_end text reached.next
+module _ (text : List ℕ) (first : ℕ) (position : Option ℕ) {head : RowHead} (h : head ≡ row_head text position) where
+  pub row_line_is : {reached : Reached} {next : Option ℕ} → reached ≡ pairs_reached text first head.next → next ≡ row_end text reached.next
       → record { right = head.right; scale = head.scale; end = reached.count; next = next } ≡ row_line text first position
   unfolding row_line
   row_line_is e k = rw (k, e, h)
@@ -37,12 +38,12 @@ module _ (text : List ℕ) (first position : ℕ) {head : RowHead} (h : head ≡
   row_pairs_is = rw h
 
 -- a row's end is the number of pairs before it and its own
-pub row_moves : (text : List ℕ) (first position : ℕ) {row : RowLine} → row ≡ row_line text first position → row.end ≡ first + length (row_pairs text first position)
+pub row_moves : (text : List ℕ) (first : ℕ) (position : Option ℕ) {row : RowLine} → row ≡ row_line text first position → row.end ≡ first + length (row_pairs text first position)
 unfolding row_line row_pairs pairs_reached
 row_moves text first position e = ap (λ (row : RowLine). row.end) e
 
 -- the last row's end is the number of all pairs
-pub rows-count : (text : List ℕ) (rows position : ℕ) → (rows_reached text rows position).count ≡ length (rows_pairs text rows position)
+pub rows-count : (text : List ℕ) (rows : ℕ) (position : Option ℕ) → (rows_reached text rows position).count ≡ length (rows_pairs text rows position)
 rows-count text rows position =
     gather_counts (row_at text) after_row (pairs_at text) (λ (reached : Reached). reached.count) (λ i σ. row_moves text σ.count σ.next refl) 0 rows (no_pair_yet position)
     ∙ omega arith

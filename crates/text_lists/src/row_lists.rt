@@ -6,7 +6,7 @@ ghost use Rattle.text_lists.specs.declared.row_lists.RowLine.{RowLine};
 ghost use Rattle.text_lists.specs.Rows.{pairs, pairs_reached, row_pairs, row_line, row_lines, rows_pairs, rows_reached};
 
 use crate::widened_list::Reached;
-use repeats::{put_count, put_double};
+use repeats::put;
 use text_rows::{no_pair, pair_at, row_end, row_head};
 use text_words::MOST_BYTES;
 
@@ -18,13 +18,13 @@ pub struct RowLine {
     /// How many pairs the sheet has up to its end.
     pub end: usize,
     /// The position after the line.
-    pub next: usize,
+    pub next: Option<usize>,
 }
 
 // The pairs from a position on, stored behind the `first` that the sheet has before them.
 fn read_pairs(
     text: &[u8],
-    position: usize,
+    position: Option<usize>,
     first: usize,
     columns: &mut [usize],
     entries: &mut [f64],
@@ -35,13 +35,14 @@ fn read_pairs(
 {
     let mut next = position;
     let mut count = first;
+    // Kept: the count is part of the answer, and a `for`'s is gone after the loop.
     while count < MOST_BYTES {
         if no_pair(text, next) {
             break;
         }
         let item = pair_at(text, next);
-        put_count(columns, count, item.column);
-        put_double(entries, count, item.entry);
+        put(columns, count, item.column);
+        put(entries, count, item.entry);
         next = item.next;
         count += 1;
     }
@@ -51,7 +52,7 @@ fn read_pairs(
 // The line of a row.
 fn read_row(
     text: &[u8],
-    position: usize,
+    position: Option<usize>,
     first: usize,
     columns: &mut [usize],
     entries: &mut [f64],
@@ -74,7 +75,7 @@ fn read_row(
 /// where the first row starts, is the caller's.
 pub fn read_rows(
     text: &[u8],
-    position: usize,
+    position: Option<usize>,
     rows: usize,
     right_sides: &mut [f64],
     scales: &mut [f64],
@@ -91,15 +92,13 @@ pub fn read_rows(
 {
     let mut next = position;
     let mut count = 0;
-    let mut i = 0;
-    while i < rows {
+    for i in 0..rows {
         let row = read_row(text, next, count, columns, entries);
-        put_double(right_sides, i, row.right);
-        put_double(scales, i, row.scale);
+        put(right_sides, i, row.right);
+        put(scales, i, row.scale);
         next = row.next;
         count = row.end;
-        i += 1;
-        put_count(starts, i, row.end);
+        put(starts, i + 1, row.end);
     }
     Reached { count, next }
 }

@@ -1,10 +1,11 @@
 //! The widened lines, as many as stand there.
 ghost use Rattle.std.specs.Prelude.{◌≡◌};
+ghost use mir.Val.{bool_byte};
 ghost use Rattle.repeats.specs.Filled.{column};
-ghost use Rattle.text_sides.specs.declared.sided_lines.WidenedLine.{WidenedLine};
+ghost use Rattle.text_sides.specs.declared.sided_lines.SidedLine.{SidedLine};
 ghost use Rattle.text_lists.specs.Widened.{widened_lines, widened_reached};
 
-use repeats::{put_count, put_flag};
+use repeats::put;
 use text_sides::{no_widened, widened_line};
 use text_words::MOST_BYTES;
 
@@ -14,29 +15,30 @@ pub struct Reached {
     /// How many things were read so far.
     pub count: usize,
     /// The position after them.
-    pub next: usize,
+    pub next: Option<usize>,
 }
 
 /// The widened lines from a position on.
 pub fn read_widened(
     text: &[u8],
-    position: usize,
+    position: Option<usize>,
     variables: &mut [usize],
     ups: &mut [u8],
 ) -> Reached
     ensures value { result ≡ widened_reached text.now position }
-    ensures variables_after { variables.new ≡ column (λ (line : WidenedLine). line.variable) (widened_lines text.now position) variables.old }
-    ensures ups_after { ups.new ≡ column (λ (line : WidenedLine). line.up) (widened_lines text.now position) ups.old }
+    ensures variables_after { variables.new ≡ column (λ (line : SidedLine). line.number) (widened_lines text.now position) variables.old }
+    ensures ups_after { ups.new ≡ column (λ (line : SidedLine). bool_byte line.up) (widened_lines text.now position) ups.old }
 {
     let mut next = position;
     let mut count = 0;
+    // Kept: the count is part of the answer, and a `for`'s is gone after the loop.
     while count < MOST_BYTES {
         if no_widened(text, next) {
             break;
         }
         let line = widened_line(text, next);
-        put_count(variables, count, line.variable);
-        put_flag(ups, count, line.up);
+        put(variables, count, line.number);
+        put(ups, count, u8::from(line.up));
         next = line.next;
         count += 1;
     }

@@ -2,9 +2,9 @@
 ghost use Rattle.std.specs.Prelude.{◌≡◌};
 ghost use Rattle.text_multipliers.specs.Lines.{multipliers_line, second_if, rho_line};
 
-use text_numbers::{Double, double_at};
+use text_numbers::double_at;
 use text_spaced::{double_space, line_end};
-use text_words::{Choice, either, expect};
+use text_words::{Item, either, expect};
 
 /// A row's multiplier.
 #[derive(Clone, Copy)]
@@ -14,11 +14,12 @@ pub struct RhoLine {
     /// Its second correction, +0 when unchecked.
     pub second: f64,
     /// The position after the line.
-    pub next: usize,
+    pub next: Option<usize>,
 }
 
 /// Whether the multipliers are checked.
-pub fn multipliers_line(text: &[u8], position: usize) -> Choice
+#[tactic(auto, unfolding(crate::specs::Lines::multipliers_line))]
+pub fn multipliers_line(text: &[u8], position: Option<usize>) -> Item<bool>
     ensures { result ≡ multipliers_line text.now position }
 {
     either(
@@ -30,21 +31,23 @@ pub fn multipliers_line(text: &[u8], position: usize) -> Choice
 }
 
 // The second correction of a checked multiplier.
-fn second_if(text: &[u8], checked: u8, position: usize) -> Double
+#[tactic(auto, unfolding(crate::specs::Lines::second_if))]
+fn second_if(text: &[u8], checked: bool, position: Option<usize>) -> Item<f64>
     ensures { result ≡ second_if text.now checked position }
 {
-    if checked == 0 {
-        Double {
+    if checked {
+        double_at(text, expect(text, position, b" "))
+    } else {
+        Item {
             value: 0.0,
             next: position,
         }
-    } else {
-        double_at(text, expect(text, position, b" "))
     }
 }
 
 /// The line of a multiplier.
-pub fn rho_line(text: &[u8], checked: u8, position: usize) -> RhoLine
+#[tactic(auto, unfolding(crate::specs::Lines::rho_line))]
+pub fn rho_line(text: &[u8], checked: bool, position: Option<usize>) -> RhoLine
     ensures { result ≡ rho_line text.now checked position }
 {
     let hi = double_space(text, expect(text, position, b"(rho "));

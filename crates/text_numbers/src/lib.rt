@@ -2,106 +2,60 @@
 
 #![tactic(auto)]
 
-ghost use Rattle.std.specs.Prelude.{◌≡◌, ◌≤◌, get_or};
-ghost use Rattle.std.specs.Float.{binary64};
-ghost use Rattle.std.specs.Float.Ieee.{of_bits};
-ghost use Rattle.text_numbers.specs.Numbers.{digit_of, number, double, count};
+ghost use Rattle.std.specs.Prelude.{◌≡◌, ◌≤◌};
+ghost use Rattle.text_numbers.specs.Numbers.{digit_at, number, double, count};
 
-use text_words::STOP;
+use hex_digits::{digit_of, double_of};
+use text_words::Item;
 
-/// A whole number.
-#[derive(Clone, Copy)]
-pub struct Count {
-    pub value: usize,
-    /// The position after it.
-    pub next: usize,
-}
-
-/// A double.
-#[derive(Clone, Copy)]
-pub struct Double {
-    pub value: f64,
-    /// The position after it.
-    pub next: usize,
-}
-
-// The byte at a position, 0 where there is none.
-fn peek(text: &[u8], position: usize) -> u8
-    ensures { result ≡ get_or text.now position 0 }
+// The value of the digit of a radix that stands at a position.
+#[tactic(auto, unfolding(crate::specs::Numbers::digit_at))]
+fn digit_at(text: &[u8], position: usize, radix: usize) -> Option<usize>
+    ensures { result ≡ digit_at text.now radix position }
 {
-    if position < text.len() {
-        text[position]
-    } else {
-        0
-    }
-}
-
-// The value of a digit 0-9A-F, 16 for any other byte.
-fn digit(c: u8) -> u8
-    ensures { result ≡ digit_of c }
-{
-    if c < 48 {
-        16
-    } else if c < 58 {
-        c - 48
-    } else if c < 65 {
-        16
-    } else if c < 71 {
-        c - 55
-    } else {
-        16
-    }
+    let digit = usize::from(digit_of(*text.get(position)?)?);
+    if digit < radix { Some(digit) } else { None }
 }
 
 // One to `most` digits of a radix.
-fn number(text: &[u8], position: usize, radix: usize, most: usize) -> Count
+#[tactic(auto, unfolding(crate::specs::Numbers::number, crate::specs::Numbers::at_least_one))]
+fn number(text: &[u8], position: Option<usize>, radix: usize, most: usize) -> Item<usize>
     requires { (radix ≤ 16) × (most ≤ 16) }
     ensures { result ≡ number text.now position radix most }
 {
-    let mut value: usize = 0;
-    let mut next = position;
-    let mut left = most;
-    while 0 < left {
-        let d = digit(peek(text, next)) as usize;
-        if radix <= d {
+    let Some(start) = position else {
+        return Item {
+            value: 0,
+            next: None,
+        };
+    };
+    let mut value = 0;
+    let mut next = start;
+    for done in 0..most {
+        let Some(digit) = digit_at(text, next, radix) else {
             break;
-        }
-        value = value * radix + d;
+        };
+        value = value * radix + digit;
         next += 1;
-        left -= 1;
     }
-    if next == position {
-        Count { value, next: STOP }
-    } else {
-        Count { value, next }
-    }
-}
-
-// The double with a pattern. `from_bits` is not defined at a NaN's, so a NaN is made by a division.
-fn double_of(bits: u64) -> f64
-    ensures { result ≡ of_bits binary64 bits }
-{
-    if 0x7FF0_0000_0000_0000 < bits % 0x8000_0000_0000_0000 {
-        let zero: f64 = 0.0;
-        zero / zero
-    } else {
-        f64::from_bits(bits)
-    }
+    let next = if next == start { None } else { Some(next) };
+    Item { value, next }
 }
 
 /// A double, in 1 to 16 hexadecimal digits of its bits.
-pub fn double_at(text: &[u8], position: usize) -> Double
+#[tactic(auto, unfolding(crate::specs::Numbers::double))]
+pub fn double_at(text: &[u8], position: Option<usize>) -> Item<f64>
     ensures { result ≡ double text.now position }
 {
     let bits = number(text, position, 16, 16);
-    Double {
+    Item {
         value: double_of(bits.value as u64),
         next: bits.next,
     }
 }
 
 /// A count, in 1 to 5 decimal digits.
-pub fn count_at(text: &[u8], position: usize) -> Count
+pub fn count_at(text: &[u8], position: Option<usize>) -> Item<usize>
     ensures { result ≡ count text.now position }
 {
     number(text, position, 10, 5)

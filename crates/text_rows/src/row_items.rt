@@ -3,9 +3,9 @@ ghost use Rattle.std.specs.Prelude.{◌≡◌};
 ghost use Rattle.text_rows.specs.Lines.{right_side, row_head, no_pair, pair, row_end};
 
 use text_items::double_then;
-use text_numbers::{Double, double_at};
+use text_numbers::double_at;
 use text_spaced::{count_after, line_end};
-use text_words::{STOP, expect};
+use text_words::{Item, expect};
 
 /// What stands before a row's pairs.
 #[derive(Clone, Copy)]
@@ -13,7 +13,7 @@ pub struct RowHead {
     pub right: f64,
     pub scale: f64,
     /// The position after it.
-    pub next: usize,
+    pub next: Option<usize>,
 }
 
 /// A column of a row, and its entry there.
@@ -22,18 +22,19 @@ pub struct Pair {
     pub column: usize,
     pub entry: f64,
     /// The position after it.
-    pub next: usize,
+    pub next: Option<usize>,
 }
 
 // A row's right side.
-fn right_side(text: &[u8], position: usize) -> Double
+fn right_side(text: &[u8], position: Option<usize>) -> Item<f64>
     ensures { result ≡ right_side text.now position }
 {
     double_at(text, position)
 }
 
 /// `(row RIGHT SCALE`.
-pub fn row_head(text: &[u8], position: usize) -> RowHead
+#[tactic(auto, unfolding(crate::specs::Lines::row_head))]
+pub fn row_head(text: &[u8], position: Option<usize>) -> RowHead
     ensures { result ≡ row_head text.now position }
 {
     let right = right_side(text, expect(text, position, b"(row "));
@@ -46,14 +47,15 @@ pub fn row_head(text: &[u8], position: usize) -> RowHead
 }
 
 /// Whether no pair stands here.
-pub fn no_pair(text: &[u8], position: usize) -> bool
+pub fn no_pair(text: &[u8], position: Option<usize>) -> bool
     ensures { result ≡ no_pair text.now position }
 {
-    expect(text, position, b" (") == STOP
+    expect(text, position, b" (").is_none()
 }
 
 /// ` (COLUMN ENTRY)`.
-pub fn pair_at(text: &[u8], position: usize) -> Pair
+#[tactic(auto, unfolding(crate::specs::Lines::pair))]
+pub fn pair_at(text: &[u8], position: Option<usize>) -> Pair
     ensures { result ≡ pair text.now position }
 {
     let column = count_after(text, position, b" (");
@@ -66,7 +68,7 @@ pub fn pair_at(text: &[u8], position: usize) -> Pair
 }
 
 /// The position after a row's end.
-pub fn row_end(text: &[u8], position: usize) -> usize
+pub fn row_end(text: &[u8], position: Option<usize>) -> Option<usize>
     ensures { result ≡ row_end text.now position }
 {
     line_end(text, position)

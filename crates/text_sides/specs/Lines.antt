@@ -1,25 +1,25 @@
 -- The lines that name a side, each read at a position: document 01, "The sheet". Assumes nothing.
-use Rattle.std.specs.Prelude.{ℕ, List, Bool, eqb}
+use Rattle.std.specs.Prelude.{ℕ, List, Bool, Option, is_none}
 use Rattle.text_words.specs.Text.{bytes}
-use Rattle.text_words.specs.Words.{stop, expect, either}
+use Rattle.text_words.specs.Words.{expect, either}
 use Rattle.text_items.specs.Items.{count_then}
-use Rattle.text_sides.specs.declared.sided_lines.WidenedLine.{WidenedLine}
-use Rattle.text_sides.specs.declared.sided_lines.LeaveLine.{LeaveLine}
+use Rattle.text_sides.specs.declared.sided_lines.SidedLine.{SidedLine}
 
 -- "`(widened J up)` or `down` lines follow the rows": whether none stands at a position
-abbrev pub no_widened : List ℕ → ℕ → Bool
-no_widened text position = eqb (expect text position (bytes "(widened ")) stop
+abbrev pub no_widened : List ℕ → Option ℕ → Bool
+no_widened text position = is_none (expect text position (bytes "(widened "))
 
--- one such line; the flag is set for up
-unfoldable pub widened_line : List ℕ → ℕ → WidenedLine
-widened_line text position =
-    let variable = count_then text (expect text position (bytes "(widened ")) (bytes " ") in
-    let up = either text variable.next (bytes "up)\n") (bytes "down)\n") in
-    record { variable = variable.value; up = up.value; next = up.next }
+-- a word, a count, and `up` or `down`
+unfoldable pub sided_line : List ℕ → Option ℕ → List ℕ → SidedLine
+sided_line text position word =
+    let number = count_then text (expect text position word) (bytes " ") in
+    let up = either text number.next (bytes "up)\n") (bytes "down)\n") in
+    record { number = number.value; up = up.value; next = up.next }
 
--- "leave: leaving row, direction"; the flag is set for up
-unfoldable pub leave_line : List ℕ → ℕ → LeaveLine
-leave_line text position =
-    let row = count_then text (expect text position (bytes "(leave ")) (bytes " ") in
-    let up = either text row.next (bytes "up)\n") (bytes "down)\n") in
-    record { row = row.value; up = up.value; next = up.next }
+-- one such line: the variable, and whether the side is up
+abbrev pub widened_line : List ℕ → Option ℕ → SidedLine
+widened_line text position = sided_line text position (bytes "(widened ")
+
+-- "leave: leaving row, direction"
+abbrev pub leave_line : List ℕ → Option ℕ → SidedLine
+leave_line text position = sided_line text position (bytes "(leave ")

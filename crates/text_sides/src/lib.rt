@@ -4,4 +4,4 @@
 
 mod sided_lines;
 
-pub use sided_lines::{LeaveLine, WidenedLine, leave_line, no_widened, widened_line};
+pub use sided_lines::{SidedLine, leave_line, no_widened, widened_line};

@@ -1,68 +1,51 @@
 //! The lines that name a side: `(widened VARIABLE up)` and `(leave ROW up)`, or `down`.
 ghost use Rattle.std.specs.Prelude.{◌≡◌};
-ghost use Rattle.text_sides.specs.Lines.{no_widened, widened_line, leave_line};
-ghost use Rattle.text_words.specs.Text.{bytes};
-ghost use Rattle.text_words.specs.Words.{either};
+ghost use Rattle.text_sides.specs.Lines.{no_widened, sided_line, widened_line, leave_line};
 
 use text_spaced::count_after;
-use text_words::{Choice, STOP, either, expect};
+use text_words::{either, expect};
 
-/// A variable and a side of it that is widened.
+/// A variable and a side of it that is widened, or the leaving row and its direction.
 #[derive(Clone, Copy)]
-pub struct WidenedLine {
-    pub variable: usize,
-    /// 1 for up, 0 for down.
-    pub up: u8,
+pub struct SidedLine {
+    /// The variable or the row.
+    pub number: usize,
+    pub up: bool,
     /// The position after the line.
-    pub next: usize,
-}
-
-/// The leaving row and its direction.
-#[derive(Clone, Copy)]
-pub struct LeaveLine {
-    pub row: usize,
-    /// 1 for up, 0 for down.
-    pub up: u8,
-    /// The position after the line.
-    pub next: usize,
+    pub next: Option<usize>,
 }
 
 /// Whether no widened line stands here.
-pub fn no_widened(text: &[u8], position: usize) -> bool
+pub fn no_widened(text: &[u8], position: Option<usize>) -> bool
     ensures { result ≡ no_widened text.now position }
 {
-    expect(text, position, b"(widened ") == STOP
+    expect(text, position, b"(widened ").is_none()
 }
 
 /// A widened line.
-pub fn widened_line(text: &[u8], position: usize) -> WidenedLine
+pub fn widened_line(text: &[u8], position: Option<usize>) -> SidedLine
     ensures { result ≡ widened_line text.now position }
 {
-    let variable = count_after(text, position, b"(widened ");
-    let up = side_last(text, variable.next);
-    WidenedLine {
-        variable: variable.value,
-        up: up.value,
-        next: up.next,
-    }
+    sided_line(text, position, b"(widened ")
 }
 
 /// The last line of a sheet.
-pub fn leave_line(text: &[u8], position: usize) -> LeaveLine
+pub fn leave_line(text: &[u8], position: Option<usize>) -> SidedLine
     ensures { result ≡ leave_line text.now position }
 {
-    let row = count_after(text, position, b"(leave ");
-    let up = side_last(text, row.next);
-    LeaveLine {
-        row: row.value,
+    sided_line(text, position, b"(leave ")
+}
+
+// A line that begins with a word and names a side.
+#[tactic(auto, unfolding(crate::specs::Lines::sided_line))]
+fn sided_line(text: &[u8], position: Option<usize>, word: &[u8]) -> SidedLine
+    ensures { result ≡ sided_line text.now position word.now }
+{
+    let number = count_after(text, position, word);
+    let up = either(text, number.next, b"up)\n", b"down)\n");
+    SidedLine {
+        number: number.value,
         up: up.value,
         next: up.next,
     }
-}
-
-// A side that ends a line: 1 for `up`, 0 for `down`.
-fn side_last(text: &[u8], position: usize) -> Choice
-    ensures { result ≡ either text.now position (bytes "up)\n") (bytes "down)\n") }
-{
-    either(text, position, b"up)\n", b"down)\n")
 }

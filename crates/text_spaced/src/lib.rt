@@ -9,18 +9,17 @@ ghost use Rattle.text_words.specs.Words.{expect};
 ghost use Rattle.text_items.specs.Items.{double_then, count_then};
 
 use text_items::{count_then, double_then};
-use text_numbers::{Count, Double};
-use text_words::expect;
+use text_words::{Item, expect};
 
 /// A double and a space.
-pub fn double_space(text: &[u8], position: usize) -> Double
+pub fn double_space(text: &[u8], position: Option<usize>) -> Item<f64>
     ensures { result ≡ double_then text.now position (bytes " ") }
 {
     double_then(text, position, b" ")
 }
 
 /// A word, a count and a space.
-pub fn count_after(text: &[u8], position: usize, word: &[u8]) -> Count
+pub fn count_after(text: &[u8], position: Option<usize>, word: &[u8]) -> Item<usize>
     ensures { result ≡ count_then text.now (expect text.now position word.now) (bytes " ") }
 {
     let start = expect(text, position, word);
@@ -28,7 +27,7 @@ pub fn count_after(text: &[u8], position: usize, word: &[u8]) -> Count
 }
 
 /// The end of a line.
-pub fn line_end(text: &[u8], position: usize) -> usize
+pub fn line_end(text: &[u8], position: Option<usize>) -> Option<usize>
     ensures { result ≡ expect text.now position (bytes ")\n") }
 {
     expect(text, position, b")\n")

@@ -6,52 +6,51 @@ ghost use Rattle.text_words.specs.Words.{either};
 ghost use Rattle.text_variable_line.specs.Lines.{place_if, variable_from, var_line, slack_line, line_at};
 
 use text_items::{count_then, double_then};
-use text_numbers::Count;
 use text_spaced::double_space;
-use text_words::{Choice, either, expect};
+use text_words::{Item, either, expect};
 
 /// What a variable's line says of it.
 #[derive(Clone, Copy)]
 pub struct VariableLine {
-    /// 1 if it is integer, else 0; a slack is not.
-    pub integer: u8,
+    /// Whether it is integer; a slack is not.
+    pub integer: bool,
     pub min: f64,
     pub max: f64,
     /// Its tolerances toward each side.
     pub low: f64,
     pub high: f64,
-    /// 1 if it is basic, else 0.
-    pub basic: u8,
+    pub basic: bool,
     /// Its place in the basis, 0 if it has none.
     pub place: usize,
     pub value: f64,
     /// The position after the line.
-    pub next: usize,
+    pub next: Option<usize>,
 }
 
 // The place of a basic variable, 0 for another.
-fn place_if(text: &[u8], position: usize, basic: u8) -> Count
+#[tactic(auto, unfolding(crate::specs::Lines::place_if))]
+fn place_if(text: &[u8], position: Option<usize>, basic: bool) -> Item<usize>
     ensures { result ≡ place_if text.now position basic }
 {
-    if basic == 0 {
-        Count {
+    if basic {
+        count_then(text, position, b" ")
+    } else {
+        Item {
             value: 0,
             next: position,
         }
-    } else {
-        count_then(text, position, b" ")
     }
 }
 
 // Whether a variable is basic.
-fn state(text: &[u8], position: usize) -> Choice
+fn state(text: &[u8], position: Option<usize>) -> Item<bool>
     ensures { result ≡ either text.now position (bytes "(basic ") (bytes "(nonbasic ") }
 {
     either(text, position, b"(basic ", b"(nonbasic ")
 }
 
 // The line from MIN on.
-fn variable_from(text: &[u8], position: usize, integer: u8) -> VariableLine
+fn variable_from(text: &[u8], position: Option<usize>, integer: bool) -> VariableLine
     ensures { result ≡ variable_from text.now position integer }
 {
     let min = double_space(text, position);
@@ -75,7 +74,8 @@ fn variable_from(text: &[u8], position: usize, integer: u8) -> VariableLine
 }
 
 // The line of a structural variable.
-fn var_line(text: &[u8], position: usize) -> VariableLine
+#[tactic(auto, unfolding(crate::specs::Lines::var_line))]
+fn var_line(text: &[u8], position: Option<usize>) -> VariableLine
     ensures { result ≡ var_line text.now position }
 {
     let integer = either(text, expect(text, position, b"(var "), b"i ", b"r ");
@@ -83,14 +83,16 @@ fn var_line(text: &[u8], position: usize) -> VariableLine
 }
 
 // The line of a slack.
-fn slack_line(text: &[u8], position: usize) -> VariableLine
+#[tactic(auto, unfolding(crate::specs::Lines::slack_line))]
+fn slack_line(text: &[u8], position: Option<usize>) -> VariableLine
     ensures { result ≡ slack_line text.now position }
 {
-    variable_from(text, expect(text, position, b"(slack "), 0)
+    variable_from(text, expect(text, position, b"(slack "), false)
 }
 
 /// The line of the i-th variable, the slacks last.
-pub fn line_at(text: &[u8], structurals: usize, i: usize, position: usize) -> VariableLine
+#[tactic(auto, unfolding(crate::specs::Lines::line_at))]
+pub fn line_at(text: &[u8], structurals: usize, i: usize, position: Option<usize>) -> VariableLine
     ensures { result ≡ line_at text.now structurals i position }
 {
     if i < structurals {

@@ -1,30 +1,25 @@
 -- The words of the sheet: document 01, "The sheet". A word is read at a position of the text's bytes, and comes with the position after it.
--- What does not follow the form ends at `stop`, past every text: nothing stands there, so whatever is read next ends there too. Assumes
--- nothing.
-use Rattle.std.specs.Prelude.{ℕ, ◌+◌, List, [], ◌∷◌, cond, length, get_or, ltb, eqb}
-use Rattle.text_words.specs.declared.Choice.{Choice}
+-- What does not follow the form has no position after it: whatever is read next has none either. Assumes nothing.
+use Rattle.std.specs.Prelude.{ℕ, ◌+◌, List, Bool, true, false, cond, Option, None, Some, is_some, length, drop, eqb}
+use Rattle.std.specs.List.{starts_with}
+use Rattle.text_words.specs.declared.Item.{Item}
 
 -- "in at most 65,536 bytes"
 abbrev pub most_bytes : ℕ
 most_bytes = 65536
 
--- the position of what does not follow the form
-abbrev pub stop : ℕ
-stop = most_bytes + 1
+-- the position after a word whose bytes stand there, one after the other
+unfoldable pub expect : List ℕ → Option ℕ → List ℕ → Option ℕ
+expect text None word = None
+expect text (Some position) word = cond (starts_with eqb (drop position text) word) (Some (position + length word)) None
 
--- the position after a byte that stands there
-unfoldable pub byte_at : List ℕ → ℕ → ℕ → ℕ
-byte_at text position byte =
-    cond (ltb position (length text)) (cond (eqb (get_or text position 0) byte) (position + 1) stop) stop
+-- an item and the word after it
+abbrev pub followed_by : {A : Type 0} → List ℕ → Item A → List ℕ → Item A
+followed_by text item word = record { value = item.value; next = expect text item.next word }
 
--- the position after a word that stands there: its bytes, one after the other
-unfoldable pub expect : List ℕ → ℕ → List ℕ → ℕ
-expect text position [] = position
-expect text position (byte ∷ rest) = expect text (byte_at text position byte) rest
-
--- one of two words: the flag is 1 for the first, 0 for the second
-unfoldable pub either : List ℕ → ℕ → List ℕ → List ℕ → Choice
+-- one of two words: whether it is the first
+unfoldable pub either : List ℕ → Option ℕ → List ℕ → List ℕ → Item Bool
 either text position first second =
-    cond (eqb (expect text position first) stop)
-    (record { value = 0; next = expect text position second })
-    (record { value = 1; next = expect text position first })
+    cond (is_some (expect text position first))
+    (record { value = true; next = expect text position first })
+    (record { value = false; next = expect text position second })

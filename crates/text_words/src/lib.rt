@@ -1,64 +1,62 @@
-//! The words of the sheet: each is read at a position of a text, and the answer has the position after it.
+//! The words of the sheet: each is read at a position of a text, and the answer has the position after it. What does not
+//! follow the form has no position after it, and nothing can be read from there on.
+
+// Kept: text and position are two parameters: a cursor of both comes back with every item, and each contract has to say that its text is the same.
 
 #![tactic(auto)]
 
 ghost use Rattle.std.specs.Prelude.{◌≡◌};
-ghost use Rattle.text_words.specs.Words.{byte_at, expect, either};
+ghost use Rattle.text_words.specs.Words.{expect, followed_by, either};
 
 /// The longest text, in bytes.
 pub const MOST_BYTES: usize = 65_536;
 
-/// A position past every text, at which nothing can be read: what does not follow the form ends here.
-pub const STOP: usize = MOST_BYTES + 1;
-
-/// One of two words.
+/// What is read at a position of a text.
 #[derive(Clone, Copy)]
-pub struct Choice {
-    /// 1 for the first, 0 for the second.
-    pub value: u8,
-    /// The position after it.
-    pub next: usize,
-}
-
-// The position after a byte.
-fn byte_at(text: &[u8], position: usize, byte: u8) -> usize
-    ensures { result ≡ byte_at text.now position byte }
-{
-    if position < text.len() {
-        if text[position] == byte {
-            position + 1
-        } else {
-            STOP
-        }
-    } else {
-        STOP
-    }
+pub struct Item<T> {
+    pub value: T,
+    /// The position after it; `None` if the text does not follow the form here or before.
+    pub next: Option<usize>,
 }
 
 /// The position after a word.
-pub fn expect(text: &[u8], position: usize, word: &[u8]) -> usize
+#[tactic(auto, unfolding(crate::specs::Words::expect))]
+pub fn expect(text: &[u8], position: Option<usize>, word: &[u8]) -> Option<usize>
     ensures { result ≡ expect text.now position word.now }
 {
-    let mut next = position;
-    let mut i = 0;
-    while i < word.len() {
-        next = byte_at(text, next, word[i]);
-        i += 1;
+    let start = position?;
+    let rest = text.get(start..).unwrap_or(&[]);
+    if rest.starts_with(word) {
+        Some(start + word.len())
+    } else {
+        None
     }
-    next
 }
 
-/// One of two words.
-pub fn either(text: &[u8], position: usize, first: &[u8], second: &[u8]) -> Choice
+impl<T: Copy> Item<T> {
+    /// The same, with a word after it.
+    pub fn then(self, text: &[u8], word: &[u8]) -> Item<T>
+        ensures { result ≡ followed_by text.now self word.now }
+    {
+        Item {
+            value: self.value,
+            next: expect(text, self.next, word),
+        }
+    }
+}
+
+/// Which of two words stands at a position: whether it is the first.
+#[tactic(auto, unfolding(crate::specs::Words::either))]
+pub fn either(text: &[u8], position: Option<usize>, first: &[u8], second: &[u8]) -> Item<bool>
     ensures { result ≡ either text.now position first.now second.now }
 {
     let next = expect(text, position, first);
-    if next == STOP {
-        Choice {
-            value: 0,
+    if next.is_some() {
+        Item { value: true, next }
+    } else {
+        Item {
+            value: false,
             next: expect(text, position, second),
         }
-    } else {
-        Choice { value: 1, next }
     }
 }

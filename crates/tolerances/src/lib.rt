@@ -24,6 +24,7 @@ impl BoundTols {
     pub const UNIT_ROUNDOFF: f64 = 1.1102230246251565e-16;
 
     /// The tolerance at the bound that a value moving up, or down, meets.
+    #[tactic(auto, unfolding(crate::specs::Tolerances::toward))]
     pub fn toward(self, up: bool) -> f64
         ensures { result ≡ toward self up }
     {
@@ -47,6 +48,7 @@ pub fn slack_margin(tol: f64, magnitude: f64, terms: usize) -> f64
 }
 
 /// The tolerance within which a row counts as satisfied.
+#[tactic(auto, unfolding(crate::specs::Tolerances::slack_tol))]
 pub fn slack_tol(tol: f64, magnitude: f64, terms: usize) -> f64
     ensures { result ≡ slack_tol tol magnitude terms }
 {
@@ -54,6 +56,7 @@ pub fn slack_tol(tol: f64, magnitude: f64, terms: usize) -> f64
 }
 
 /// How far a slack that is not leaving may move past its bound, from its row's tolerance, magnitude and terms.
+#[tactic(auto, unfolding(crate::specs::Tolerances::trimmed_room))]
 pub fn trimmed_room(tol: f64, magnitude: f64, terms: usize) -> f64
     ensures { result ≡ trimmed_room tol magnitude terms }
 {

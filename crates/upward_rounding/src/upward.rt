@@ -8,6 +8,8 @@ ghost use Rattle.cdouble.specs.Exactness.{abs_ℤ, ProductRange, SumRange};
 use cdouble::CDouble;
 use double_bits::next_up;
 
+// Kept: a port has the Rust's `add_up` and `mul_up` one by one, which differ in the pair that they take their error from.
+
 /// `a + b`, rounded up.
 pub fn add_up(a: f64, b: f64) -> f64
     ensures { (result ≡ add_up a b) × (SumRange a b → IsUp 0 (exact a +ℤ exact b) result) }

@@ -1,4 +1,4 @@
-//! The library for callers in C: each function is the library's of the same name, with the same contract.
+//! The library for callers in C: each function is the library's of the same name, over slices that are lent one by one.
 #![tactic(auto)]
 
 ghost use Rattle.std.specs.Prelude.{◌≡◌, ◌≤◌, T, length};
@@ -8,15 +8,75 @@ ghost use Rattle.added_row.specs.Added.{lists};
 ghost use Rattle.kept.specs.Kept.{after, lent, outputs, sizes};
 ghost use Rattle.gaps.specs.Rows.{ranges_of, rows_of};
 ghost use Rattle.gaps.specs.ThirdDemand.{NoPoint};
-ghost use Rattle.verdict.specs.Verdict.{verdict};
+ghost use Rattle.refusal_numbers.specs.Numbers.{numbered};
+ghost use Rattle.ushnazar_c.specs.Verdict.{refused_with, text_verdict, told, verdict};
 ghost use Rattle.widened_records.specs.Records.{ups_of, variables_of};
 ghost use Rattle.printer.specs.Answer.{written_if_fits};
 ghost use Rattle.sheet_text.specs.SheetIn.{sheet_in};
-ghost use Rattle.weigh_text.specs.TextVerdict.{most_answer, text_answer, text_verdict};
+ghost use Rattle.weigh_text.specs.TextVerdict.{most_answer, text_answer};
 
+use added_row::Lists;
 use cdouble::CDouble;
-use verdict::Verdict;
+use refusal_numbers::Refusal;
+use sheet::Sheet;
 use widened_records::Widened;
+
+/// The number of the first question whose answer is no, or 0 and the verdict.
+// Kept: C has no Result: a number beside fields that are 0 where it is not.
+#[repr(C)]
+#[derive(Clone, Copy)]
+pub struct Verdict {
+    pub refusal: u32,
+    pub holds: bool,
+    pub gap: f64,
+    pub allowance: f64,
+    pub cut: f64,
+    pub zero_within_error: usize,
+    pub multipliers_zeroed: usize,
+    pub rows: usize,
+    pub outward: f64,
+    pub declined: bool,
+}
+
+/// The answer to a sheet that a question refuses.
+fn refused(number: u32) -> Verdict
+    ensures { result ≡ refused_with number }
+{
+    Verdict {
+        refusal: number,
+        holds: false,
+        gap: 0.0,
+        allowance: 0.0,
+        cut: 0.0,
+        zero_within_error: 0,
+        multipliers_zeroed: 0,
+        rows: 0,
+        outward: 0.0,
+        declined: false,
+    }
+}
+
+impl From<Result<verdict::Verdict, Refusal>> for Verdict {
+    ghost from_gives = { λ answer v. v ≡ told (numbered answer) };
+
+    fn from(answer: Result<verdict::Verdict, Refusal>) -> Verdict {
+        match answer {
+            Ok(v) => Verdict {
+                refusal: 0,
+                holds: v.proof.holds,
+                gap: v.proof.gap,
+                allowance: v.proof.allowance,
+                cut: v.proof.cut,
+                zero_within_error: v.proof.zero_within_error,
+                multipliers_zeroed: v.proof.multipliers_zeroed,
+                rows: v.proof.rows,
+                outward: v.outward,
+                declined: v.declined,
+            },
+            Err(refusal) => refused(u32::from(refusal)),
+        }
+    }
+}
 
 /// `p + v`, in place.
 #[unsafe(no_mangle)]
@@ -71,8 +131,7 @@ pub extern "C" fn sheet_verdict<'a>(
     ensures lent_after { lent (lists high.new low.new magnitudes.new terms.new) errors.new ≡ after (sheet (sizes rows structurals entry_count) feasibility checked leaving_row leaving_up (outputs (lists high.old low.old magnitudes.old terms.old) errors.old) starts.now columns.now entries.now right_sides.now scales.now integer.now mins.now maxs.now low_tolerances.now high_tolerances.now basic.now places.now values.now (variables_of widened.now) (ups_of widened.now) rho_hi.now rho_lo.now second.now) (lent (lists high.old low.old magnitudes.old terms.old) errors.old) }
     ensures no_point { T result.declined → NoPoint (rows_of (sheet (sizes rows structurals entry_count) feasibility checked leaving_row leaving_up (outputs (lists high.old low.old magnitudes.old terms.old) errors.old) starts.now columns.now entries.now right_sides.now scales.now integer.now mins.now maxs.now low_tolerances.now high_tolerances.now basic.now places.now values.now (variables_of widened.now) (ups_of widened.now) rho_hi.now rho_lo.now second.now)) (ranges_of (sheet (sizes rows structurals entry_count) feasibility checked leaving_row leaving_up (outputs (lists high.old low.old magnitudes.old terms.old) errors.old) starts.now columns.now entries.now right_sides.now scales.now integer.now mins.now maxs.now low_tolerances.now high_tolerances.now basic.now places.now values.now (variables_of widened.now) (ups_of widened.now) rho_hi.now rho_lo.now second.now)) }
 {
-    sheet_verdict::sheet_verdict(
-        widened,
+    let s = Sheet {
         rows,
         structurals,
         entry_count,
@@ -80,11 +139,6 @@ pub extern "C" fn sheet_verdict<'a>(
         checked,
         leaving_row,
         leaving_up,
-        high,
-        low,
-        magnitudes,
-        terms,
-        errors,
         starts,
         columns,
         entries,
@@ -98,10 +152,19 @@ pub extern "C" fn sheet_verdict<'a>(
         basic,
         places,
         values,
+        widened_variables: &[],
+        widened_ups: &[],
         rho_hi,
         rho_lo,
         second,
-    )
+    };
+    let mut l = Lists {
+        high,
+        low,
+        magnitudes,
+        terms,
+    };
+    Verdict::from(sheet_verdict::sheet_verdict(widened, &s, &mut l, errors))
 }
 
 /// The verdict on a sheet whose widened list is lent as two lists.
@@ -142,7 +205,7 @@ pub extern "C" fn verdict_of(
     ensures lent_after { lent (lists high.new low.new magnitudes.new terms.new) errors.new ≡ after (sheet (sizes rows structurals entry_count) feasibility checked leaving_row leaving_up (outputs (lists high.old low.old magnitudes.old terms.old) errors.old) starts.now columns.now entries.now right_sides.now scales.now integer.now mins.now maxs.now low_tolerances.now high_tolerances.now basic.now places.now values.now widened_vars.now widened_ups.now rho_hi.now rho_lo.now second.now) (lent (lists high.old low.old magnitudes.old terms.old) errors.old) }
     ensures no_point { T result.declined → NoPoint (rows_of (sheet (sizes rows structurals entry_count) feasibility checked leaving_row leaving_up (outputs (lists high.old low.old magnitudes.old terms.old) errors.old) starts.now columns.now entries.now right_sides.now scales.now integer.now mins.now maxs.now low_tolerances.now high_tolerances.now basic.now places.now values.now widened_vars.now widened_ups.now rho_hi.now rho_lo.now second.now)) (ranges_of (sheet (sizes rows structurals entry_count) feasibility checked leaving_row leaving_up (outputs (lists high.old low.old magnitudes.old terms.old) errors.old) starts.now columns.now entries.now right_sides.now scales.now integer.now mins.now maxs.now low_tolerances.now high_tolerances.now basic.now places.now values.now widened_vars.now widened_ups.now rho_hi.now rho_lo.now second.now)) }
 {
-    verdict::verdict_of(
+    let s = Sheet {
         rows,
         structurals,
         entry_count,
@@ -150,11 +213,6 @@ pub extern "C" fn verdict_of(
         checked,
         leaving_row,
         leaving_up,
-        high,
-        low,
-        magnitudes,
-        terms,
-        errors,
         starts,
         columns,
         entries,
@@ -168,12 +226,19 @@ pub extern "C" fn verdict_of(
         basic,
         places,
         values,
-        widened_vars,
+        widened_variables: widened_vars,
         widened_ups,
         rho_hi,
         rho_lo,
         second,
-    )
+    };
+    let mut l = Lists {
+        high,
+        low,
+        magnitudes,
+        terms,
+    };
+    Verdict::from(verdict::verdict_of(&s, &mut l, errors))
 }
 
 /// Puts the answer to a text at the front of `out`, where it fits, and answers its length; where it does not fit nothing is

@@ -1,6 +1,7 @@
 -- What of the sheet a variable's edges rest on: all but the basis, the multipliers and the outputs. Assumes nothing.
 use Rattle.std.specs.Prelude.{Bool, cond, List, ℕ, get_or, Float}
 use Rattle.std.specs.Float.{nan}
+use Rattle.sheet.specs.declared.lent.Sheet.{Sheet as Slices}
 use Rattle.sheet.specs.Sheet.{Sheet}
 use Rattle.tolerances.specs.declared.BoundTols.{BoundTols}
 
@@ -41,6 +42,12 @@ model structurals feasibility starts columns entries right_sides scales integer 
       widened_variables = widened_variables;
       widened_ups = widened_ups;
     }
+
+-- that of the lent slices
+abbrev pub lent_model : Slices → Model
+lent_model s =
+    model s.structurals s.feasibility s.starts.now s.columns.now s.entries.now s.right_sides.now s.scales.now s.integer.now s.mins.now s.maxs.now
+    s.low_tolerances.now s.high_tolerances.now s.values.now s.widened_variables.now s.widened_ups.now
 
 -- that of a sheet
 abbrev pub model_of : Sheet → Model

@@ -1,87 +1,97 @@
--- The loops over the widened list and over the basis places, on lists. Assumes nothing.
+-- What the passes over the widened list and over the basis places find, on lists. Assumes nothing.
 use native.Mathlib.Omega.{arith}
-use native.Mathlib.Nat.{le_antisymm}
 use native.Mathlib.Numerals.{add-one}
 use mathlib.Core.Path.{◌≡◌, refl, ap, sym, ◌∙◌}
 use mathlib.Core.Logic.{inl, inr}
-use mathlib.Core.Bool.{Bool, true, false, cond, ◌&&◌, beq, and-false, or-true}
+use mathlib.Core.Bool.{Bool, true, false, cond, ◌&&◌, beq}
 use mathlib.Core.List.{List}
-use Prim.Native.Nat.{ℕ, zero, suc, ◌+◌, ◌-◌, ◌<◌, ◌≤◌}
-use borrow.Author.Tests.{eq-eqb, ne_eqb}
-use lib.Dec.{eqb}
-use lib.ListN.{length, get_or}
+use Prim.Native.Nat.{ℕ, zero, suc, ◌+◌, ◌<◌, ◌≤◌}
+use borrow.Author.Tests.{ltb-false}
+use lib.Dec.{eqb, ltb}
+use lib.ListN.{length, take}
+use lib.Seq.{take_all}
+use Rattle.std.proofs.Common.{Option, Some, None, unwrap_or}
+use Rattle.std.specs.List.{list_any, zip, position_or_len}
+use Rattle.std.proofs.lemmas.List.Folds.{list_any_more}
+use Rattle.std.proofs.lemmas.List.Sums.{position_or_len_is}
+use Rattle.std.proofs.lemmas.Slice.Zip.{length-zip, get_or-zip}
 use Rattle.exact.proofs.Naturals.{le_or_lt}
 use Rattle.questions.specs.Flags.{is_set}
 use Rattle.place_questions.specs.Places.{holds_place, widened_among}
 use Rattle.variable_kinds.specs.Variables.{is_widened, holder_from}
 
--- ---- the widened list: the first k items are others
-module _ (vars ups : List ℕ) (v : ℕ) (up : Bool) where
-  abbrev pub matches : ℕ → Bool
-  matches k = eqb (get_or vars k 0) v && beq (is_set (get_or ups k 0)) up
+-- ---- the widened list
+abbrev pub matches : ℕ → Bool → ℕ × ℕ → Bool
+matches v up item = eqb item.0 v && beq (is_set item.1) up
 
-  pub matches_both : (k : ℕ) → get_or vars k 0 ≡ v → beq (is_set (get_or ups k 0)) up ≡ true → matches k ≡ true
-  matches_both k here side = rw (eq-eqb (get_or vars k 0) v here) side
-
-  pub other_side : (k : ℕ) → beq (is_set (get_or ups k 0)) up ≡ false → matches k ≡ false
-  other_side k side = rw side (and-false (eqb (get_or vars k 0) v))
-
-  pub other_variable : (k : ℕ) → (get_or vars k 0 ≡ v → ⊥) → matches k ≡ false
-  other_variable k differs = rw (ne_eqb (get_or vars k 0) v differs) refl
-
-  pub record Unmet (k : ℕ) : Type 0 where
-    pub within : k ≤ length vars
-    pub so_far : widened_among vars ups k v up ≡ false
-
-  pub none_met : Unmet 0
+module _ (vars ups : List ℕ) (v : ℕ) (up : Bool) (same : length ups ≡ length vars) where
+  among : (n : ℕ) → n ≤ length vars → list_any (matches v up) (take n (zip vars ups)) ≡ widened_among vars ups n v up
   unfolding widened_among
-  none_met = record { within = omega arith; so_far = refl }
+  among zero within = refl
+  among (suc n) within =
+      rw (
+        ← (add-one n),
+        list_any_more (matches v up) (zip vars ups) n (0, 0) (omega (arith, length-zip vars ups)),
+        among n (omega arith),
+        get_or-zip vars ups n (0, 0) (omega arith) (omega arith),
+      )
+      refl
 
-  met : (k n : ℕ) → k < n → matches k ≡ true → widened_among vars ups n v up ≡ true
-  unfolding widened_among
-  met k zero less here = absurd (omega arith)
-  met k (suc n) less here =
-      elim (le_or_lt n k) [
-        | inl last ↦ let e : k ≡ n = omega arith in rw (sym e) (rw here (or-true (widened_among vars ups k v up)))
-        | inr before ↦ rw (met k n before here) refl
-      ]
+  pub any_widened : list_any (matches v up) (zip vars ups) ≡ is_widened vars ups v up
+  any_widened = ap (list_any (matches v up)) (sym (take_all (length vars) (zip vars ups) (omega (arith, length-zip vars ups)))) ∙ among (length vars) (omega arith)
 
-  module _ {k : ℕ} (turn : Unmet k) where
-    pub one_unmet : k < length vars → matches k ≡ false → Unmet (k + 1)
-    unfolding widened_among
-    one_unmet less here = record { within = omega arith; so_far = rw add-one (rw (turn.so_far, here) refl) }
+-- ---- the basis places
+from_position : (n len : ℕ) {r : Option ℕ} → r ≡ cond (ltb n len) (Some n) None → n ≤ len → unwrap_or r len ≡ n
+from_position n len e within = ap (λ (o : Option ℕ). unwrap_or o len) e ∙ go (ltb n len) refl
+  where
+    go : (b : Bool) → ltb n len ≡ b → unwrap_or (cond b (Some n) None) len ≡ n
+    go true t = refl
+    go false t = omega (arith, ltb-false n len t, within)
 
-    pub is_met : k < length vars → matches k ≡ true → true ≡ is_widened vars ups v up
-    is_met less here = sym (met k (length vars) less here)
+abbrev pub holds : ℕ → ℕ × ℕ → Bool
+holds p item = is_set item.0 && eqb item.1 p
 
-    pub all_unmet : length vars ≤ k → false ≡ is_widened vars ups v up
-    all_unmet end = sym turn.so_far ∙ ap (λ (n : ℕ). widened_among vars ups n v up) (le_antisymm turn.within end)
-
--- ---- the basis places: the first v variables hold others
 module _ (basic places : List ℕ) (p : ℕ) where
-  abbrev holder : ℕ
-  holder = holder_from basic places p 0 (length basic)
+  -- h is the first of the variables from v on, n of them, that holds the place, or the one after them
+  record First (v n h : ℕ) : Type 0 where
+    within : h ≤ v + n
+    before : (k : ℕ) → v ≤ k → k < h → holds_place basic places p k ≡ false
+    there : h < v + n → holds_place basic places p h ≡ true
 
-  pub record Unheld (v : ℕ) : Type 0 where
-    pub within : v ≤ length basic
-    pub so_far : holder ≡ holder_from basic places p v (length basic - v)
-
-  pub none_held : Unheld 0
-  none_held = let e : length basic - 0 ≡ length basic = omega arith in record { within = omega arith; so_far = sym (ap (λ (n : ℕ). holder_from basic places p 0 n) e) }
-
-  from_here : (v : ℕ) → v < length basic → holder_from basic places p v (length basic - v) ≡ cond (holds_place basic places p v) v (holder_from basic places p (v + 1) (length basic - (v + 1)))
+  first : (v n : ℕ) → First v n (holder_from basic places p v n)
   unfolding holder_from
-  from_here v less = let e : length basic - v ≡ suc (length basic - (v + 1)) = omega arith in rw e (rw add-one refl)
+  first v zero = record { within = omega arith; before = λ k from less. absurd (omega arith); there = λ less. absurd (omega arith) }
+  first v (suc n) = go (holds_place basic places p v) refl (first (suc v) n)
+    where
+      go : (b : Bool) → holds_place basic places p v ≡ b → First (suc v) n (holder_from basic places p (suc v) n)
+          → First v (suc n) (cond b v (holder_from basic places p (suc v) n))
+      go true e rest = record { within = omega arith; before = λ k from less. absurd (omega arith); there = λ less. e }
+      go false e rest =
+          record {
+            within = omega (arith, rest.within);
+            before =
+                λ k from less.
+                elim (le_or_lt k v) [ inl here ↦ let at : k ≡ v = omega arith in rw at e | inr after ↦ rest.before k (omega arith) less ];
+            there = λ less. rest.there (omega arith);
+          }
 
-  module _ {v : ℕ} (turn : Unheld v) where
-    pub one_unheld : v < length basic → holds_place basic places p v ≡ false → Unheld (v + 1)
-    one_unheld less here =
-        record { within = omega arith; so_far = turn.so_far ∙ from_here v less ∙ ap (λ (b : Bool). cond b v (holder_from basic places p (v + 1) (length basic - (v + 1)))) here }
+  module _ (same : length places ≡ length basic) where
+    abbrev holder : ℕ
+    holder = holder_from basic places p 0 (length basic)
 
-    pub is_held : v < length basic → holds_place basic places p v ≡ true → v ≡ holder
-    is_held less here =
-        sym (turn.so_far ∙ from_here v less ∙ ap (λ (b : Bool). cond b v (holder_from basic places p (v + 1) (length basic - (v + 1)))) here)
+    long : length (zip basic places) ≡ length basic
+    long = omega (arith, length-zip basic places)
 
-    pub all_unheld : length basic ≤ v → v ≡ holder
-    unfolding holder_from
-    all_unheld end = let e : length basic - v ≡ 0 = omega arith in sym (turn.so_far ∙ ap (λ (n : ℕ). holder_from basic places p v n) e)
+    found : First 0 (length basic) holder
+    found = first 0 (length basic)
+
+    position_is : position_or_len (holds p) (zip basic places) ≡ holder
+    position_is =
+        position_or_len_is (holds p) (zip basic places) holder (0, 0) (omega (arith, long, found.within))
+        (λ k less. rw (get_or-zip basic places k (0, 0) (omega (arith, found.within)) (omega (arith, found.within))) (found.before k (omega arith) less))
+        (λ less. let here : holder < length basic = omega (arith, long) in rw (get_or-zip basic places holder (0, 0) here (omega arith)) (found.there (omega arith)))
+
+    pub found_is : {r : Option ℕ}
+        → r ≡ cond (ltb (position_or_len (holds p) (zip basic places)) (length (zip basic places))) (Some (position_or_len (holds p) (zip basic places))) None
+        → unwrap_or r (length basic) ≡ holder
+    found_is e = from_position (position_or_len (holds p) (zip basic places)) (length basic) (rw long at e) (omega (arith, position_is, found.within)) ∙ position_is

@@ -1,53 +1,62 @@
--- The verdict, what is lent afterwards, and what a declined answer means, from what the calls gave. Assumes nothing.
-use mathlib.Core.Path.{◌≡◌, refl, ap, subst, ◌∙◌}
-use mathlib.Core.Bool.{false}
+-- The verdict, and what a declined answer means, from what the calls gave. Assumes nothing.
+use mathlib.Core.Path.{◌≡◌, ap, sym, subst, ◌∙◌}
 use Prim.Native.Nat.{ℕ}
-use borrow.Author.Tests.{eq-eqb, ne_eqb}
 use lib.Dec.{T}
 use lib.Ieee.{Float, lt}
 use lib.Ieee.Fits.{and_r}
+use Rattle.std.specs.Prelude.{IfOk, Result, Ok, Err}
+use Rattle.std.specs.Result.{IsErrAnd}
+use Rattle.std.proofs.lemmas.Result.{err_from_is_err_and}
 use Rattle.cdouble.specs.Compensated.{plus_zero}
-use Rattle.cdouble.proofs.Contracts.{when_true, when_false}
+use Rattle.refusal_numbers.specs.declared.Refusal.{Refusal}
+use Rattle.refusal_numbers.specs.Numbers.{number_of, numbered}
+use Rattle.refusal_numbers.proofs.Numbers.{answered_err, answered_ok}
 use Rattle.sheet.specs.Sheet.{Sheet, Doubles}
 use Rattle.sheet_answers.specs.Answers.{first_no}
-use Rattle.kept.specs.declared.Kept.{Kept}
-use Rattle.kept.specs.Kept.{Lent, kept, refused, proof_of, filled_in, after}
-use Rattle.kept.proofs.Whole.{accepts, answer_full, answer-refused}
+use Rattle.judgement.specs.declared.gap.Proof.{Proof}
+use Rattle.kept.specs.Kept.{Lent, after, filled_in, proof_of}
+use Rattle.kept.proofs.Whole.{after_full, after_refused}
+use Rattle.outward_sheet.proofs.NoPoint.{no_point}
 use Rattle.gaps.specs.Rows.{rows_of, ranges_of}
 use Rattle.gaps.specs.Steps.{outward_of}
 use Rattle.gaps.specs.ThirdDemand.{NoPoint}
-use Rattle.outward_sheet.proofs.NoPoint.{no_point}
 use Rattle.verdict.specs.declared.Verdict.{Verdict}
-use Rattle.verdict.specs.Verdict.{with_outward, refused_with, full_verdict, verdict}
+use Rattle.verdict.specs.Verdict.{with_outward, full_verdict, verdict}
 
 -- "that a declined answer rules out every point"
-abbrev pub Declined : Sheet → Verdict → Type 0
-Declined s r = T r.declined → NoPoint (rows_of s) (ranges_of s)
+abbrev pub Declined : Sheet → Result Verdict Refusal → Type 0
+Declined s r = IfOk r (λ v. T v.declined → NoPoint (rows_of s) (ranges_of s))
 
-module _ (s : Sheet) (before : Lent) {n : ℕ} (number : n ≡ first_no s) where
-  module _ (none : n ≡ 0) {k : Kept} {g : Float} (gap_is : g ≡ outward_of s) (kept_is : k ≡ kept (proof_of s)) {r : Verdict} (answers : r ≡ with_outward k g) where
-    full_is : r ≡ verdict s
+module _ (s : Sheet) where
+  module _ {p : Proof} {g : Float} {v : Verdict} (answers : v ≡ with_outward p g) where
+    pub verdict_full : 0 ≡ first_no s → p ≡ proof_of s → g ≡ outward_of s → Ok v ≡ verdict s
     unfolding verdict full_verdict
-    full_is =
-        when_true (refused_with (first_no s))
-        (answers ∙ ap (λ (x : Kept). with_outward x g) kept_is ∙ ap (with_outward (kept (proof_of s))) gap_is)
-        (eq-eqb (first_no s) 0 (accepts s before number none))
+    verdict_full none proof_is gap_is =
+        answered_ok none (answers ∙ ap (λ (x : Proof). with_outward x g) proof_is ∙ ap (with_outward (proof_of s)) gap_is)
 
-    rules_out : Doubles s → Declined s r
-    rules_out doubles t =
-        let both = subst (λ (v : Verdict). T v.declined) answers t in
-        no_point s (accepts s before number none) doubles gap_is (and_r k.holds (lt plus_zero g) both)
+    pub rules_out : (T (lt plus_zero g) → NoPoint (rows_of s) (ranges_of s)) → T v.declined → NoPoint (rows_of s) (ranges_of s)
+    rules_out above t = above (and_r p.holds (lt plus_zero g) (subst (λ (x : Verdict). T x.declined) answers t))
 
-    pub verdict_full : {now : Lent} → now ≡ filled_in s before → Doubles s → (r ≡ verdict s) × ((now ≡ after s before) × Declined s r)
-    verdict_full filled doubles = (full_is, ((answer_full s before number none kept_is filled).1, rules_out doubles))
+  module _ (refusal : Refusal) (returned : Result Verdict Refusal) (handed : IsErrAnd returned (λ y. y ≡ refusal)) where
+    pub verdict-refused : number_of refusal ≡ first_no s → numbered returned ≡ verdict s
+    unfolding verdict
+    verdict-refused is = answered_err refusal (full_verdict s) returned handed is
 
-  pub verdict-refused : {r : Verdict} → (n ≡ 0 → ⊥) → r ≡ refused_with n → (r ≡ verdict s) × ((before ≡ after s before) × Declined s r)
-  unfolding verdict
-  verdict-refused some e =
-      let differs = ne_eqb (first_no s) 0 (λ none. some (number ∙ none)) in (
-        when_false (full_verdict s) (e ∙ ap refused_with number) differs,
-        (
-          (answer-refused s before number {r = refused n} some refl).1,
-          λ t. absurd (subst (λ (v : Verdict). T v.declined) e t),
-        ),
-      )
+    pub none_declined : Declined s returned
+    none_declined = let p = err_from_is_err_and returned handed in rw p.1 tt
+
+-- ---- all of it: the answer, what is lent afterwards, and what a declined order rules out
+module _ (s : Sheet) (before : Lent) where
+  pub accepted_whole : {p : Proof} {g : Float} {v : Verdict} {now : Lent} → 0 ≡ first_no s → p ≡ proof_of s → g ≡ outward_of s → v ≡ with_outward p g
+      → now ≡ filled_in s before → Doubles s → (Ok v ≡ verdict s) × ((now ≡ after s before) × Declined s (Ok v))
+  accepted_whole none proof_is gap_is answers filled doubles = (
+    verdict_full s answers none proof_is gap_is,
+    (after_full s before none filled, rules_out s answers (no_point s (sym none) doubles gap_is)),
+  )
+
+  pub refused_whole : (refusal : Refusal) (returned : Result Verdict Refusal) → IsErrAnd returned (λ y. y ≡ refusal) → number_of refusal ≡ first_no s
+      → (numbered returned ≡ verdict s) × ((before ≡ after s before) × Declined s returned)
+  refused_whole refusal returned handed is = (
+    verdict-refused s refusal returned handed is,
+    (after_refused s before refusal is, none_declined s refusal returned handed),
+  )

@@ -3,16 +3,16 @@
 use native.Mathlib.Omega.{arith}
 use mathlib.Core.Path.{◌≡◌, refl, ap, sym, ◌∙◌, subst}
 use mathlib.Core.Logic.{◌⊎◌, inl, inr}
-use mathlib.Core.Bool.{Bool, true, false, cond, ◌&&◌}
+use mathlib.Core.Bool.{Bool, true, false, ◌&&◌}
 use Prim.Native.Nat.{ℕ, zero, suc, ◌≤◌}
 use borrow.Author.Tests.{eqb-true}
 use lib.Dec.{eqb}
 use lib.Ieee.{Float, lt, le, eq}
 use lib.Ieee.Scale.{finite}
-use Rattle.exact.proofs.Naturals.{le_or_lt}
+use Rattle.std.proofs.lemmas.Bool.{cases_lt, cond_both, cond-true, cond-false, false_from_ne_true}
 use Rattle.doubles.specs.Compare.{absolute}
 use Rattle.cdouble.specs.Compensated.{plus_zero, value}
-use Rattle.cdouble.proofs.Contracts.{differ, when_true, when_false}
+use Rattle.cdouble.proofs.Contracts.{differ}
 use Rattle.certificate.specs.Certificate.{Certificate}
 use Rattle.variable_bounds.specs.Model.{Model, bound_of}
 use Rattle.edges.specs.Edges.{edge}
@@ -44,8 +44,8 @@ module _ (m : Model) (leaving : ℕ) (estimated : Bool) (c : Certificate) (k : �
   unfolding walk_over
   ended_stays zero more = let e : zero ≡ k = omega arith in ap (walk_over m leaving estimated c) e
   ended_stays (suc n) more =
-      elim (le_or_lt (suc n) k) [
-        | inl here ↦ let e : suc n ≡ k = omega arith in ap (walk_over m leaving estimated c) e
+      elim (cases_lt n k) [
+        | inl below ↦ let e : suc n ≡ k = omega arith in ap (walk_over m leaving estimated c) e
         | inr before ↦
             let w = walk_over m leaving estimated c k in
             let next = step m leaving n (coefficient_at estimated c.lists_of c.errors n) in
@@ -61,30 +61,25 @@ module _ (m : Model) (leaving : ℕ) (estimated : Bool) (c : Certificate) (k : �
   unlimited_stays e = ended_stays m leaving estimated c k (subst Ended (sym e) tt)
 
 -- ---- a step
--- what holds of both sides of a test
-pub by_test : {A : Type 0} (P : A → Type 0) (b : Bool) {x y : A} → (b ≡ true → P x) → (b ≡ false → P y) → P (cond b x y)
-by_test P true p q = p refl
-by_test P false p q = q refl
-
 -- what holds of the state as it is, of one that counted as zero, and of one that counted, its coefficient not 0 and its bound finite
 module _ (P : Walked → Type 0) (w : Walk) (same : (end : End) → P (walked w end)) (as-zero : P (walked (counted_as_zero w) Through)) where
   infinity-cases : (c : Coefficient) → P (at_infinity c w)
   unfolding at_infinity
   infinity-cases c =
-      by_test P (finite (error_of_zero c)) (λ t. by_test P (le (absolute (value c.p)) (error_of_zero c)) (λ less. as-zero) (λ more. same Unlimited)) (λ f. same Spoilt)
+      cond_both (finite (error_of_zero c)) _ _ P (λ t. cond_both (le (absolute (value c.p)) (error_of_zero c)) _ _ P (λ less. as-zero) (λ more. same Unlimited)) (λ f. same Spoilt)
 
   pub step_cases : (m : Model) (leaving v : ℕ) (c : Coefficient) → let up = lt plus_zero (value c.p) in
       (eq (value c.p) plus_zero ≡ false → finite (bound_of m v up) ≡ true → P (walked (counted (eqb v leaving) c (bound_of m v up) (edge m leaving v up) w) Through)) → P (step m leaving v c w)
   unfolding step
   step_cases m leaving v c counts =
       let p = value c.p in
-      by_test P (eq p plus_zero) (λ z. same Through)
-      (λ n. by_test P (finite p && finite c.magnitude) (λ t. by_test P (finite (bound_of m v (lt plus_zero p))) (counts n) (λ f. infinity-cases c)) (λ f. same Spoilt))
+      cond_both (eq p plus_zero) _ _ P (λ z. same Through)
+      (λ n. cond_both (finite p && finite c.magnitude) _ _ P (λ t. cond_both (finite (bound_of m v (lt plus_zero p))) _ _ P (counts n) (λ f. infinity-cases c)) (λ f. same Spoilt))
 
 -- "value 0 is skipped"
 pub skipped : (m : Model) (leaving v : ℕ) (c : Coefficient) (w : Walk) → eq (value c.p) plus_zero ≡ true → step m leaving v c w ≡ walked w Through
 unfolding step
-skipped m leaving v c w z = sym (when_true _ refl z)
+skipped m leaving v c w z = cond-true _ _ _ z
 
 -- ---- the leaving variable's edge: "its edge is 0 if its coefficient was 0 or counted as zero"
 -- its coefficient is 0, or its bound on that side infinite, so that it can at most count as zero
@@ -94,13 +89,9 @@ Uncounted m v c = (eq (value c.p) plus_zero ≡ true) ⊎ (finite (bound_of m v 
 record Keeps (w : Walk) (r : Walked) : Type 0 where
   kept : r.walk.leaving_edge ≡ w.leaving_edge
 
-refuted : (b : Bool) → (b ≡ true → b ≡ false) → b ≡ false
-refuted true f = f refl
-refuted false f = refl
-
 counted_keeps : (w : Walk) (leaving : Bool) (c : Coefficient) (bound end : Float) → leaving ≡ false → Keeps w (walked (counted leaving c bound end w) Through)
 unfolding counted
-counted_keeps w leaving c bound end other = record { kept = sym (when_false end refl other) }
+counted_keeps w leaving c bound end other = record { kept = cond-false leaving end w.leaving_edge other }
 
 zero_keeps : (w : Walk) → Keeps w (walked (counted_as_zero w) Through)
 unfolding counted_as_zero
@@ -109,7 +100,7 @@ zero_keeps w = record { kept = refl }
 step_keeps : (m : Model) (leaving v : ℕ) (c : Coefficient) (w : Walk) → (v ≡ leaving → Uncounted m v c) → Keeps w (step m leaving v c w)
 step_keeps m leaving v c w uncounted =
     step_cases (Keeps w) w (λ end. record { kept = refl }) (zero_keeps w) m leaving v c
-    (λ n t. counted_keeps w (eqb v leaving) c _ _ (refuted (eqb v leaving) (λ e. elim (uncounted (eqb-true v leaving e)) [ inl z ↦ differ z n | inr f ↦ differ t f ])))
+    (λ n t. counted_keeps w (eqb v leaving) c _ _ (false_from_ne_true (eqb v leaving) (λ e. elim (uncounted (eqb-true v leaving e)) [ inl z ↦ differ z n | inr f ↦ differ t f ])))
 
 onward_keeps : (next : Walk → Walked) (w : Walk) (end : End) → Keeps w (next w) → (onward next (walked w end)).walk.leaving_edge ≡ w.leaving_edge
 unfolding onward

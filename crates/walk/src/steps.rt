@@ -1,45 +1,29 @@
 //! The steps of the walk.
 ghost use Rattle.std.specs.Prelude.{◌≡◌};
-ghost use Rattle.variable_bounds.specs.Model.{model};
+ghost use Rattle.variable_bounds.specs.Model.{lent_model};
 ghost use Rattle.certificate.specs.Certificate.{certificate};
-ghost use Rattle.added_row.specs.Added.{lists};
+ghost use Rattle.added_row.specs.Lent.{lent_lists};
 ghost use Rattle.walk.specs.Walk.{walk_over};
 ghost use Rattle.walk.specs.Reads.{WalkFits};
 
-use added_row::Sums;
+use added_row::{Lists, Sums};
 use cdouble::CDouble;
+use sheet::Sheet;
 use walk_states::{End, Walk, Walked};
 use walk_step::step;
 
 /// The walk over the first `count` variables.
 pub fn walk_over(
-    structurals: usize,
-    feasibility: f64,
+    s: &Sheet,
     count: usize,
     estimated: bool,
     leaving: usize,
     sums: Sums,
-    high: &[f64],
-    low: &[f64],
-    magnitudes: &[f64],
-    terms: &[u32],
+    l: &Lists,
     errors: &[f64],
-    starts: &[usize],
-    columns: &[usize],
-    entries: &[f64],
-    right_sides: &[f64],
-    scales: &[f64],
-    integer: &[u8],
-    mins: &[f64],
-    maxs: &[f64],
-    low_tolerances: &[f64],
-    high_tolerances: &[f64],
-    values: &[f64],
-    widened_vars: &[usize],
-    widened_ups: &[u8],
 ) -> Walked
-    requires { WalkFits (model structurals feasibility starts.now columns.now entries.now right_sides.now scales.now integer.now mins.now maxs.now low_tolerances.now high_tolerances.now values.now widened_vars.now widened_ups.now) count (lists high.now low.now magnitudes.now terms.now) errors.now sums }
-    ensures { result ≡ walk_over (model structurals feasibility starts.now columns.now entries.now right_sides.now scales.now integer.now mins.now maxs.now low_tolerances.now high_tolerances.now values.now widened_vars.now widened_ups.now) leaving estimated (certificate (lists high.now low.now magnitudes.now terms.now) errors.now sums) count }
+    requires { WalkFits (lent_model s.now) count (lent_lists l.now) errors.now sums }
+    ensures { result ≡ walk_over (lent_model s.now) leaving estimated (certificate (lent_lists l.now) errors.now sums) count }
 {
     let mut w = Walk {
         magnitude: sums.magnitude,
@@ -52,45 +36,18 @@ pub fn walk_over(
         longest: sums.rows,
         bounded: 0,
     };
-    let mut v = 0;
+    let mut variables = 0..count;
+    // Kept: a labelled loop and no `for`, since document 01 asks for one that yields how the walk ended.
     let end = 'walk: loop {
-        if count <= v {
+        let Some(v) = variables.next() else {
             break 'walk End::Through;
-        }
-        let next = step(
-            structurals,
-            feasibility,
-            estimated,
-            leaving,
-            high,
-            low,
-            magnitudes,
-            terms,
-            errors,
-            starts,
-            columns,
-            entries,
-            right_sides,
-            scales,
-            integer,
-            mins,
-            maxs,
-            low_tolerances,
-            high_tolerances,
-            values,
-            widened_vars,
-            widened_ups,
-            v,
-            w,
-        );
+        };
+        let next = step(s, estimated, leaving, l, errors, v, w);
         w = next.walk;
-        let how = next.end;
-        match how {
+        match next.end {
             End::Through => (),
-            End::Spoilt => break 'walk End::Spoilt,
-            End::Unlimited => break 'walk End::Unlimited,
+            ended => break 'walk ended,
         }
-        v += 1;
     };
-    Walked { walk: w, end: end }
+    Walked { walk: w, end }
 }

@@ -1,5 +1,5 @@
 //! What a coefficient makes of the state of the walk.
-ghost use Rattle.std.specs.Prelude.{◌≡◌, max};
+ghost use Rattle.std.specs.Prelude.{◌≡◌};
 ghost use Rattle.walk_states.specs.States.{at_infinity, counted, counted_as_zero, error_of_zero};
 ghost use Rattle.walk_states.specs.Reads.{Small};
 
@@ -45,20 +45,15 @@ pub enum End {
 }
 
 /// The sums of a walk, and how it ended.
+// Kept: no Result, since the sums and counts stay as they are then and each end is weighed with them (document 01).
 #[derive(Clone, Copy)]
 pub struct Walked {
     pub walk: Walk,
     pub end: End,
 }
 
-/// The larger of two counts.
-fn most(a: usize, b: usize) -> usize
-    ensures { result ≡ max a b }
-{
-    if a < b { b } else { a }
-}
-
 /// How far from zero a coefficient can come out where it is zero for the exact multipliers.
+#[tactic(auto, unfolding(crate::specs::States::error_of_zero))]
 fn error_of_zero(c: Coefficient) -> f64
     ensures { result ≡ error_of_zero c }
 {
@@ -67,66 +62,50 @@ fn error_of_zero(c: Coefficient) -> f64
 
 /// A coefficient that counts at its variable's bound, the variable's room ending at `end`. The room of the leaving
 /// variable is kept apart from the others'.
+#[tactic(auto, unfolding(crate::specs::States::counted))]
 pub fn counted(leaving: bool, c: Coefficient, bound: f64, end: f64, w: Walk) -> Walk
     requires { Small w }
     ensures { result ≡ counted leaving c bound end w }
 {
-    let p = c.p;
-    let before = w.implied_max;
-    let implied_max = before.add_scaled(p, bound);
     let width = distance_up(end, bound);
-    let reach = mul_up(p.abs_up(), width);
-    let magnitude = w.magnitude + c.magnitude * (abs(bound) + width);
-    let terms = w.terms + 1;
+    let reach = mul_up(c.p.abs_up(), width);
     let bounded = w.bounded + 1;
-    let longest = most(most(w.longest, c.terms), bounded);
+    let next = Walk {
+        magnitude: w.magnitude + c.magnitude * (abs(bound) + width),
+        terms: w.terms + 1,
+        implied_max: w.implied_max.add_scaled(c.p, bound),
+        longest: w.longest.max(c.terms).max(bounded),
+        bounded,
+        ..w
+    };
     if leaving {
         Walk {
-            magnitude: magnitude,
-            terms: terms,
-            implied_max: implied_max,
-            room: w.room,
             leaving_room: reach,
             leaving_edge: end,
-            zero_within_error: w.zero_within_error,
-            longest: longest,
-            bounded: bounded,
+            ..next
         }
     } else {
         Walk {
-            magnitude: magnitude,
-            terms: terms,
-            implied_max: implied_max,
             room: add_up(w.room, reach),
-            leaving_room: w.leaving_room,
-            leaving_edge: w.leaving_edge,
-            zero_within_error: w.zero_within_error,
-            longest: longest,
-            bounded: bounded,
+            ..next
         }
     }
 }
 
 /// A coefficient that counts as zero.
+#[tactic(auto, unfolding(crate::specs::States::counted_as_zero))]
 fn counted_as_zero(w: Walk) -> Walk
     requires { Small w }
     ensures { result ≡ counted_as_zero w }
 {
-    let implied_max = w.implied_max;
     Walk {
-        magnitude: w.magnitude,
-        terms: w.terms,
-        implied_max: implied_max,
-        room: w.room,
-        leaving_room: w.leaving_room,
-        leaving_edge: w.leaving_edge,
         zero_within_error: w.zero_within_error + 1,
-        longest: w.longest,
-        bounded: w.bounded,
+        ..w
     }
 }
 
 /// A coefficient whose variable has no finite bound on its side.
+#[tactic(auto, unfolding(crate::specs::States::at_infinity))]
 pub fn at_infinity(c: Coefficient, w: Walk) -> Walked
     requires { Small w }
     ensures { result ≡ at_infinity c w }
@@ -138,8 +117,7 @@ pub fn at_infinity(c: Coefficient, w: Walk) -> Walked
             end: End::Spoilt,
         };
     }
-    let p = c.p;
-    if abs(p.value()) <= error {
+    if abs(c.p.value()) <= error {
         return Walked {
             walk: counted_as_zero(w),
             end: End::Through,

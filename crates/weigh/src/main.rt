@@ -51,7 +51,7 @@ fn read_text<I: Read>(input: &mut I, text: &mut [u8]) -> Input
     }
     Input {
         length: used,
-        failed: failed,
+        failed,
     }
 }
 

@@ -6,10 +6,11 @@ use mathlib.Core.List.{List}
 use Prim.Native.Nat.{ℕ, ◌*◌, ◌<◌, min}
 use lib.ListN.{length, take, length-take}
 use lib.Seq.{take_all}
+use Rattle.std.specs.Prelude.{Err}
 use Rattle.questions.specs.Questions.{sizes_fine}
 use Rattle.sheet.specs.Sheet.{Sheet, variables}
 use Rattle.sheet_answers.specs.Answers.{ask, first_no}
-use Rattle.verdict.specs.Verdict.{refused_with, verdict}
+use Rattle.verdict.specs.Verdict.{verdict}
 use Rattle.many_widened.proofs.ManyWidened.{fine_few, front_decides}
 use Rattle.same_widened.specs.Interchangeable.{Interchangeable, with_widened}
 
@@ -33,6 +34,6 @@ cut_interchangeable s k sides many =
     }
 
 -- ---- a sheet of sizes beyond the limits
-pub sizes-refused : (s : Sheet) → sizes_fine s.rows s.structurals s.entry_count ≡ false → verdict s ≡ refused_with 2
+pub sizes-refused : (s : Sheet) → sizes_fine s.rows s.structurals s.entry_count ≡ false → verdict s ≡ Err 2
 unfolding verdict first_no ask
 sizes-refused s e = rw e refl

@@ -2,7 +2,7 @@
 
 #![tactic(auto)]
 
-ghost use Rattle.std.specs.Prelude.{◌≡◌, ◌≤◌, T, length};
+ghost use Rattle.std.specs.Prelude.{◌≡◌, ◌≤◌, IfOk, T, length};
 ghost use Rattle.printer.specs.Answer.{written_if_fits};
 ghost use Rattle.gaps.specs.Rows.{ranges_of, rows_of};
 ghost use Rattle.gaps.specs.ThirdDemand.{NoPoint};
@@ -19,18 +19,31 @@ pub use text::text_verdict;
 /// No answer is longer.
 pub const MOST_ANSWER: usize = 256;
 
+/// What no line of a refusal shows.
+const NO_LINES: Lines = Lines {
+    holds: false,
+    gap: 0.0,
+    allowance: 0.0,
+    cut: 0.0,
+    zero_within_error: 0,
+    multipliers_zeroed: 0,
+    rows: 0,
+    outward: 0.0,
+    declined: false,
+};
+
 /// The values of the nine lines.
 fn lines_of(v: Verdict) -> Lines
     ensures { result ≡ lines_of v }
 {
     Lines {
-        holds: v.holds,
-        gap: v.gap,
-        allowance: v.allowance,
-        cut: v.cut,
-        zero_within_error: v.zero_within_error,
-        multipliers_zeroed: v.multipliers_zeroed,
-        rows: v.rows,
+        holds: v.proof.holds,
+        gap: v.proof.gap,
+        allowance: v.proof.allowance,
+        cut: v.proof.cut,
+        zero_within_error: v.proof.zero_within_error,
+        multipliers_zeroed: v.proof.multipliers_zeroed,
+        rows: v.proof.rows,
         outward: v.outward,
         declined: v.declined,
     }
@@ -42,8 +55,13 @@ pub fn weigh_text(text: &[u8], out: &mut [u8]) -> usize
     ensures value { result ≡ length (text_answer text.now) }
     ensures out_after { out.new ≡ written_if_fits (text_answer text.now) out.old }
     ensures upper_bound { result ≤ most_answer }
-    ensures no_point { T (text_verdict text.now).declined → NoPoint (rows_of (sheet_in text.now)) (ranges_of (sheet_in text.now)) }
+    ensures no_point { IfOk (text_verdict text.now) (λ v. T v.declined → NoPoint (rows_of (sheet_in text.now)) (ranges_of (sheet_in text.now))) }
 {
-    let v = text_verdict(text);
-    put_answer(v.refusal, lines_of(v), out)
+    match text_verdict(text) {
+        Ok(v) => put_answer(0, lines_of(v), out),
+        Err(refusal) => {
+            let number = u32::from(refusal);
+            put_answer(number, NO_LINES, out)
+        }
+    }
 }

@@ -1,5 +1,6 @@
 //! The verdict on a text: the first question, then the verdict on the sheet that the text says.
-ghost use Rattle.std.specs.Prelude.{◌≡◌, T};
+ghost use Rattle.std.specs.Prelude.{◌≡◌, IfOk, T};
+ghost use Rattle.refusal_numbers.specs.Numbers.{numbered};
 ghost use Rattle.gaps.specs.Rows.{ranges_of, rows_of};
 ghost use Rattle.gaps.specs.ThirdDemand.{NoPoint};
 ghost use Rattle.sheet_text.specs.SheetIn.{sheet_in};
@@ -8,15 +9,16 @@ ghost use Rattle.weigh_text.specs.TextVerdict.{text_verdict};
 use front_verdict::{MOST_VARIABLES, verdict_on};
 use many_widened::MOST_WIDENED;
 use questions::{MOST_ENTRIES, MOST_ROWS, MOST_STRUCTURALS};
-use sheet::Sizes;
+use refusal_numbers::Refusal;
+use sheet::Sheet;
 use sheet_text::{follows_form, read_sheet};
-use verdict::{Verdict, refused};
+use verdict::Verdict;
 
 /// The text is read into lists of this function's own, so nothing lent changes. They have room for the largest sheet that
 /// the second question allows; of a longer one the rest is read and not kept.
-pub fn text_verdict(text: &[u8]) -> Verdict
-    ensures value { result ≡ text_verdict text.now }
-    ensures no_point { T result.declined → NoPoint (rows_of (sheet_in text.now)) (ranges_of (sheet_in text.now)) }
+pub fn text_verdict(text: &[u8]) -> Result<Verdict, Refusal>
+    ensures value { numbered result ≡ text_verdict text.now }
+    ensures no_point { IfOk result (λ v. T v.declined → NoPoint (rows_of (sheet_in text.now)) (ranges_of (sheet_in text.now))) }
 {
     let mut starts = [0; MOST_ROWS + 1];
     let mut columns = [0; MOST_ENTRIES];
@@ -58,37 +60,34 @@ pub fn text_verdict(text: &[u8]) -> Verdict
         &mut second,
     );
     if !follows_form(text.len(), read.next) {
-        return refused(1);
+        return Err(Refusal::Form);
     }
-    let sizes = Sizes {
+    let s = Sheet {
         rows: read.rows,
         structurals: read.structurals,
-        entries: read.entries,
+        entry_count: read.entries,
+        feasibility: read.feasibility,
+        checked: read.checked,
+        leaving_row: read.leaving_row,
+        leaving_up: read.leaving_up,
+        starts: &starts,
+        columns: &columns,
+        entries: &entries,
+        right_sides: &right_sides,
+        scales: &scales,
+        integer: &integer,
+        mins: &mins,
+        maxs: &maxs,
+        low_tolerances: &low_tolerances,
+        high_tolerances: &high_tolerances,
+        basic: &basic,
+        places: &places,
+        values: &values,
+        widened_variables: &widened_vars,
+        widened_ups: &widened_ups,
+        rho_hi: &rho_hi,
+        rho_lo: &rho_lo,
+        second: &second,
     };
-    verdict_on(
-        sizes,
-        read.feasibility,
-        read.checked,
-        read.leaving_row,
-        read.leaving_up,
-        read.widened,
-        &starts,
-        &columns,
-        &entries,
-        &right_sides,
-        &scales,
-        &integer,
-        &mins,
-        &maxs,
-        &low_tolerances,
-        &high_tolerances,
-        &basic,
-        &places,
-        &values,
-        &widened_vars,
-        &widened_ups,
-        &rho_hi,
-        &rho_lo,
-        &second,
-    )
+    verdict_on(&s, read.widened)
 }

@@ -8,6 +8,7 @@ use upward_rounding::add_up;
 use walk_states::End;
 
 /// The gap: a pair, none because a variable has no limit, or none because a number is not finite.
+// Kept: no Option or Result, since document 01 asks for an enum whose finite case carries the pair.
 #[derive(Clone, Copy)]
 pub enum GapSum {
     Finite(CDouble),
@@ -15,17 +16,15 @@ pub enum GapSum {
     Spoilt,
 }
 
-/// Whether the certificate holds, and what its gap must exceed.
+/// Whether the certificate holds, and what its gap must exceed, whether it does or not.
 #[derive(Clone, Copy)]
 pub struct Weight {
     pub holds: bool,
     pub allowance: f64,
 }
 
-/// The pattern of minus infinity.
-const NEG_INFINITY: u64 = 0xFFF0_0000_0000_0000;
-
 /// A sum that has overflowed is no gap.
+#[tactic(auto, unfolding(crate::specs::Gap::finite_sum))]
 fn finite_sum(sum: CDouble) -> GapSum
     ensures { result ≡ finite_sum sum }
 {
@@ -37,34 +36,31 @@ fn finite_sum(sum: CDouble) -> GapSum
 }
 
 /// The gap of a walk that ended so.
+#[tactic(auto, unfolding(crate::specs::Gap::gap_sum))]
 pub fn gap_sum(beta: CDouble, implied_max: CDouble, end: End) -> GapSum
     ensures { result ≡ gap_sum beta implied_max end }
 {
     match end {
-        End::Through => {
-            if is_finite(beta.value()) {
-                finite_sum(beta.add_scaled(implied_max, -1.0))
-            } else {
-                GapSum::Spoilt
-            }
-        }
-        End::Spoilt => GapSum::Spoilt,
+        End::Through if is_finite(beta.value()) => finite_sum(beta.add_scaled(implied_max, -1.0)),
         End::Unlimited => GapSum::Unlimited,
+        End::Through | End::Spoilt => GapSum::Spoilt,
     }
 }
 
 /// The gap as a double.
+#[tactic(auto, unfolding(crate::specs::Gap::gap_of))]
 pub fn gap_of(sum: GapSum) -> f64
     ensures { result ≡ gap_of sum }
 {
     match sum {
         GapSum::Finite(gap) => gap.value(),
-        GapSum::Unlimited => f64::from_bits(NEG_INFINITY),
-        GapSum::Spoilt => 0.0 / 0.0,
+        GapSum::Unlimited => f64::NEG_INFINITY,
+        GapSum::Spoilt => f64::NAN,
     }
 }
 
 /// The gap against the others' room alone.
+#[tactic(auto, unfolding(crate::specs::Gap::weighed_plain))]
 fn weighed_plain(gap: f64, others: f64) -> Weight
     ensures { result ≡ weighed_plain gap others }
 {
@@ -75,14 +71,14 @@ fn weighed_plain(gap: f64, others: f64) -> Weight
 }
 
 /// The gap less the leaving room, rounded down, against the others' room less the cut, rounded up.
+#[tactic(auto, unfolding(crate::specs::Gap::weighed_apart))]
 fn weighed_apart(sum: CDouble, gap: f64, others: f64, leaving_room: f64, cut: f64) -> Weight
     ensures { result ≡ weighed_apart sum gap others leaving_room cut }
 {
     let rest = add_up(others, -cut);
     let excess = sum.add(-leaving_room);
-    let holds = (gap > others) & (excess.rounded(false) > rest);
     Weight {
-        holds: holds,
+        holds: gap > others && excess.rounded(false) > rest,
         allowance: add_up(rest, leaving_room),
     }
 }
@@ -93,14 +89,9 @@ pub fn weigh(sum: GapSum, others: f64, leaving_room: f64, cut: f64) -> Weight
 {
     let gap = gap_of(sum);
     match sum {
-        GapSum::Finite(pair) => {
-            if leaving_room > cut {
-                weighed_apart(pair, gap, others, leaving_room, cut)
-            } else {
-                weighed_plain(gap, others)
-            }
+        GapSum::Finite(pair) if leaving_room > cut => {
+            weighed_apart(pair, gap, others, leaving_room, cut)
         }
-        GapSum::Unlimited => weighed_plain(gap, others),
-        GapSum::Spoilt => weighed_plain(gap, others),
+        _ => weighed_plain(gap, others),
     }
 }

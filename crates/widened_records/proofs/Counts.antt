@@ -1,5 +1,4 @@
--- How many variables there are: in full where the second question takes the sheet's size, none elsewhere, and never more than the limits allow.
--- Assumes nothing.
+-- There are never more variables than the limits allow. Assumes nothing.
 use mathlib.Core.Path.{◌≡◌, refl}
 use mathlib.Core.Bool.{Bool, true, false, cond, ◌&&◌}
 use Prim.Native.Nat.{ℕ, ◌+◌, ◌≤◌}
@@ -8,10 +7,6 @@ use borrow.Author.Tests.{leb-true}
 use lib.Dec.{leb}
 use Rattle.questions.specs.Limits.{most_rows, most_structurals}
 use Rattle.widened_records.specs.Records.{count_of}
-
-pub by_tests : (rows structurals : ℕ) {a b : Bool} → leb rows most_rows ≡ a → leb structurals most_structurals ≡ b
-    → count_of rows structurals ≡ cond (a && b) (structurals + rows) 0
-by_tests rows structurals ea eb = rw (ea, eb) refl
 
 few : (rows structurals : ℕ) (a b : Bool) → leb rows most_rows ≡ a → leb structurals most_structurals ≡ b
     → cond (a && b) (structurals + rows) 0 ≤ most_structurals + most_rows

@@ -11,7 +11,8 @@ ghost use Rattle.many_widened.specs.Fewest.{most_widened};
 ghost use Rattle.widened_records.specs.Records.{count_of, ups_of, variables_of};
 ghost use Rattle.widened_records.specs.Found.{found_in, nothing_found, noted_in};
 
-use many_widened::looked_at;
+use many_widened::MOST_WIDENED;
+pub use place_questions::MARKS;
 use place_questions::mark_of;
 use questions::{MOST_ROWS, MOST_STRUCTURALS};
 
@@ -22,9 +23,6 @@ pub struct Widened {
     pub variable: usize,
     pub up: u8,
 }
-
-/// Two marks for each variable, down and up.
-pub const MARKS: usize = 2 * (MOST_STRUCTURALS + MOST_ROWS);
 
 /// What the search of a widened list has found: a mark for each variable and side that it holds, and whether an item names no
 /// variable or comes twice.
@@ -57,6 +55,7 @@ fn nothing_found() -> Found
 }
 
 /// One item more.
+#[tactic(auto, unfolding(crate::specs::Found::noted_in))]
 fn noted(mut found: Found, w: Widened, rows: usize, structurals: usize) -> Found
     ensures { result ≡ noted_in (count_of rows structurals) found w }
 {
@@ -79,12 +78,8 @@ pub fn search(list: &[Widened], rows: usize, structurals: usize) -> Found
     ensures marks_value { result.amiss ≡ false → (v : ℕ) (up : Bool) → v < count_of rows structurals → get_or result.marks (mark_of v up) false ≡ is_widened (variables_of list.now) (ups_of list.now) v up }
     ensures amiss_value { result.amiss ≡ not (widened_fine (count_of rows structurals) (variables_of list.now) (ups_of list.now)) }
 {
-    let mut found = nothing_found();
-    let end = looked_at(list.len());
-    let mut i = 0;
-    while i < end {
-        found = noted(found, list[i], rows, structurals);
-        i += 1;
-    }
-    found
+    list.iter().take(MOST_WIDENED).fold(
+        nothing_found(),
+        |found, w| noted(found, *w, rows, structurals),
+    )
 }

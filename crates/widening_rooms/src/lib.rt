@@ -2,54 +2,46 @@
 
 #![tactic(auto)]
 
-ghost use Rattle.std.specs.Prelude.{◌≡◌};
-ghost use Rattle.variable_bounds.specs.Model.{model};
-ghost use Rattle.widening_rooms.specs.Rooms.{widening_room};
-ghost use Rattle.widening_rooms.specs.Reads.{Readable};
+ghost use Rattle.std.specs.Prelude.{◌≡◌, ◌≤◌, length};
+ghost use Rattle.variable_bounds.specs.Model.{lent_model};
+ghost use Rattle.widening_rooms.specs.Rooms.{slack_room_at, widening_room};
+ghost use Rattle.widening_rooms.specs.Reads.{Readable, RowReadable};
 
 use row_values::slack_room;
+use sheet::Sheet;
 use variable_bounds::tolerance_of;
 use variable_kinds::is_widened;
 
-/// How far the bound of `v` on this side may move out where `v` is not leaving.
-pub fn widening_room(
-    structurals: usize,
-    feasibility: f64,
-    starts: &[usize],
-    columns: &[usize],
-    entries: &[f64],
-    right_sides: &[f64],
-    scales: &[f64],
-    integer: &[u8],
-    mins: &[f64],
-    maxs: &[f64],
-    low_tolerances: &[f64],
-    high_tolerances: &[f64],
-    values: &[f64],
-    widened_vars: &[usize],
-    widened_ups: &[u8],
-    v: usize,
-    up: bool,
-) -> f64
-    requires { Readable (model structurals feasibility starts.now columns.now entries.now right_sides.now scales.now integer.now mins.now maxs.now low_tolerances.now high_tolerances.now values.now widened_vars.now widened_ups.now) v }
-    ensures { result ≡ widening_room (model structurals feasibility starts.now columns.now entries.now right_sides.now scales.now integer.now mins.now maxs.now low_tolerances.now high_tolerances.now values.now widened_vars.now widened_ups.now) v up }
+/// How far the slack of the row `r` may move past its bounds where it is not leaving.
+pub fn room_of_row(s: &Sheet, r: usize) -> f64
+    requires row { RowReadable (lent_model s.now) r }
+    requires entries_len { length s.now.entries.now ≡ length s.now.columns.now }
+    requires structurals_in_bounds { s.now.structurals ≤ length s.now.values.now }
+    ensures { result ≡ slack_room_at (lent_model s.now) r }
 {
-    if is_widened(widened_vars, widened_ups, v, up) {
+    let start = s.starts[r];
+    let end = s.starts[r + 1];
+    slack_room(
+        s.structurals,
+        s.feasibility,
+        s.right_sides[r],
+        s.scales[r],
+        &s.columns[start..end],
+        &s.entries[start..end],
+        s.values,
+    )
+}
+
+/// How far the bound of `v` on this side may move out where `v` is not leaving.
+pub fn widening_room(s: &Sheet, v: usize, up: bool) -> f64
+    requires { Readable (lent_model s.now) v }
+    ensures { result ≡ widening_room (lent_model s.now) v up }
+{
+    if is_widened(s.widened_variables, s.widened_ups, v, up) {
         return 0.0;
     }
-    if v < structurals {
-        return tolerance_of(low_tolerances, high_tolerances, v, up);
+    if v < s.structurals {
+        return tolerance_of(s, v, up);
     }
-    let r = v - structurals;
-    let start = starts[r];
-    let end = starts[r + 1];
-    slack_room(
-        structurals,
-        feasibility,
-        right_sides[r],
-        scales[r],
-        &columns[start..end],
-        &entries[start..end],
-        values,
-    )
+    room_of_row(s, v - s.structurals)
 }

@@ -1,36 +1,23 @@
 -- `both_edges` meets its contract. Assumes nothing.
 use mathlib.Core.Bool.{true, false}
-use Rattle.variable_bounds.specs.Model.{Model, model}
+use Rattle.variable_bounds.specs.Model.{lent_model}
 use Rattle.both_edges.proofs.Pairs.{held_edge, moved_edge}
 use Rattle.both_edges.proofs.both_edges.Goals as goal
-use Rattle.both_edges.proofs.both_edges.Tie as tie
-use Rattle.both_edges.proofs.both_edges.Reads as reads
-use Rattle.both_edges.proofs.both_edges.Lts as lts
 
--- what is read of the sheet
-abbrev whole : lts.Start tie.the-claims reads.Pre reads.Post → Model
-whole c = model c.args.structurals c.args.feasibility c.args.starts.now c.args.columns.now c.args.entries.now c.args.right_sides.now c.args.scales.now c.args.integer.now c.args.mins.now c.args.maxs.now c.args.low_tolerances.now c.args.high_tolerances.now c.args.values.now c.args.widened_vars.now c.args.widened_ups.now
+pub returns-then-holds_on_bounds-clause-low : goal.returns-then-holds_on_bounds-clause-low
+returns-then-holds_on_bounds-clause-low c =
+    held_edge (lent_model c.args.s.now) c.args.leaving c.args.v false c.if-v-leaving.false c.holds_on_bounds.ensures c.if-holds_on_bounds.true
 
-pub bounds-mins-v : goal.bounds-mins-v
-bounds-mins-v c = c.requires.in_mins
+pub returns-then-holds_on_bounds-clause-high : goal.returns-then-holds_on_bounds-clause-high
+returns-then-holds_on_bounds-clause-high c =
+    held_edge (lent_model c.args.s.now) c.args.leaving c.args.v true c.if-v-leaving.false c.holds_on_bounds.ensures c.if-holds_on_bounds.true
 
-pub bounds-maxs-v : goal.bounds-maxs-v
-bounds-maxs-v c = c.requires.in_maxs
+pub returns-clause-low : goal.returns-clause-low
+returns-clause-low c =
+    moved_edge (lent_model c.args.s.now) c.args.leaving c.args.v false c.if-v-leaving.false c.holds_on_bounds.ensures c.if-holds_on_bounds.false
+    c.rooms-room.ensures.low c.moved-low.ensures
 
-pub each_edge-requires : goal.each_edge-requires
-each_edge-requires c = c.requires
-
-pub returns-then-v-leaving : goal.returns-then-v-leaving
-returns-then-v-leaving c = c.each_edge.ensures
-
-pub holds_on_bounds-requires : goal.holds_on_bounds-requires
-holds_on_bounds-requires c = (c.requires.integers, c.requires.minimums, c.requires.maximums)
-
-pub returns-then-holds_on_bounds : goal.returns-then-holds_on_bounds
-returns-then-holds_on_bounds c = (held_edge (whole c.before.before.before.before.before.before.before.before.before.before.before.before.before.before.before.before.before.before.before) c.args.leaving c.args.v false c.if-v-leaving.false c.holds_on_bounds.ensures c.if-holds_on_bounds.true, held_edge (whole c.before.before.before.before.before.before.before.before.before.before.before.before.before.before.before.before.before.before.before) c.args.leaving c.args.v true c.if-v-leaving.false c.holds_on_bounds.ensures c.if-holds_on_bounds.true)
-
-pub rooms-room-requires : goal.rooms-room-requires
-rooms-room-requires c = c.requires
-
-pub returns : goal.returns
-returns c = (moved_edge (whole c.before.before.before.before.before.before.before.before.before.before.before.before.before.before.before.before.before.before.before.before.before.before) c.args.leaving c.args.v false c.if-v-leaving.false c.holds_on_bounds.ensures c.if-holds_on_bounds.false c.rooms-room.ensures.0 c.moved-low.ensures, moved_edge (whole c.before.before.before.before.before.before.before.before.before.before.before.before.before.before.before.before.before.before.before.before.before.before) c.args.leaving c.args.v true c.if-v-leaving.false c.holds_on_bounds.ensures c.if-holds_on_bounds.false c.rooms-room.ensures.1 c.moved-high.ensures)
+pub returns-clause-high : goal.returns-clause-high
+returns-clause-high c =
+    moved_edge (lent_model c.args.s.now) c.args.leaving c.args.v true c.if-v-leaving.false c.holds_on_bounds.ensures c.if-holds_on_bounds.false
+    c.rooms-room.ensures.high c.moved-high.ensures

@@ -3,9 +3,6 @@ use Rattle.row_questions.specs.Rows.{part}
 use Rattle.coefficients.proofs.Rows.{entries_fit, row_added}
 use Rattle.coefficients.proofs.add_row.Goals as goal
 
-pub multiplier_at-m-requires : goal.multiplier_at-m-requires
-multiplier_at-m-requires c = c.requires.row.multiplier
-
 pub keep_row-requires : goal.keep_row-requires
 unfolding part
 keep_row-requires c = entries_fit c.requires

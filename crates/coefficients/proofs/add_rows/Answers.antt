@@ -10,19 +10,10 @@ unfolding of_bits
 loop-r-init c = first_row c.requires
 
 pub add_row-sum-requires : goal.add_row-sum-requires
-add_row-sum-requires c = row_asks c.requires c.loop-r.invariant c.loop-r-test.true
-
-pub overflow_add-r : goal.overflow_add-r
-overflow_add-r c = omega (arith, c.loop-r-test.true, c.ranges.rows.fits)
+add_row-sum-requires c = row_asks c.requires c.loop-r.invariant (omega arith)
 
 pub loop-r-preserved : goal.loop-r-preserved
-loop-r-preserved c = next_row c.requires c.loop-r.invariant c.loop-r-test.true c.add_row-sum.ensures
-
-pub shape_of-lower : goal.shape_of-lower
-shape_of-lower c = c.loop-r.invariant.so_far.low.same
-
-pub shape_of-upper : goal.shape_of-upper
-shape_of-upper c = c.loop-r.invariant.so_far.high.same
+loop-r-preserved c = next_row c.requires c.loop-r.invariant (omega arith) c.add_row-sum.ensures
 
 pub returns : goal.returns
-returns c = let all = to_written c.requires.long (finish c.loop-r.invariant c.loop-r-test.false) in record { value = all.0; lower_after = all.1.0; upper_after = all.1.1 }
+returns c = let all = to_written c.requires.long (finish c.loop-r.invariant (omega arith)) in record { value = all.0; lower_after = all.1.0; upper_after = all.1.1 }

@@ -1,22 +1,23 @@
 -- `add_terms` meets its contract. Assumes nothing.
-use Rattle.exact.proofs.Turns.{finish}
+use lib.Ieee.{nan}
+use lib.ListN.{length-append}
+use Rattle.std.proofs.lemmas.Slice.Zip.{zip_turn}
 use Rattle.coefficients.proofs.Ends.{first_entry, entry_asks, next_entry}
 use Rattle.coefficients.proofs.add_terms.Goals as goal
 
-pub loop-k-init : goal.loop-k-init
-loop-k-init c = first_entry c.args.y c.requires
+pub loop-v-init : goal.loop-v-init
+loop-v-init c = first_entry c.args.y c.requires
 
 pub add_term-requires : goal.add_term-requires
-add_term-requires c = entry_asks c.args.y c.requires c.loop-k.invariant c.loop-k-test.true
+add_term-requires c =
+    let t =
+    zip_turn c.args.columns.now c.args.entries.now c.loop-v.yielded c.into_iter-v-iterator.result c.loop-v.v-iterator c.next.new.self _
+    (cc) (cc) c.loop-v.yielded_by _ c.in-Some.is c.next.ensures.steps in
+    entry_asks c.args.y c.requires c.loop-v.invariant t.0 (t.2 0)
 
-pub loop-k-preserved : goal.loop-k-preserved
-loop-k-preserved c = next_entry c.args.y c.requires c.loop-k.invariant c.loop-k-test.true c.add_term.ensures
-
-pub shape_of-lower : goal.shape_of-lower
-shape_of-lower c = c.loop-k.invariant.so_far.low.same
-
-pub shape_of-upper : goal.shape_of-upper
-shape_of-upper c = c.loop-k.invariant.so_far.high.same
-
-pub returns : goal.returns
-returns c = finish c.loop-k.invariant c.loop-k-test.false
+pub loop-v-preserved : goal.loop-v-preserved
+loop-v-preserved c =
+    let t =
+    zip_turn c.args.columns.now c.args.entries.now c.loop-v.yielded c.into_iter-v-iterator.result c.loop-v.v-iterator c.next.new.self _
+    (cc) (cc) c.loop-v.yielded_by _ c.in-Some.is c.next.ensures.steps in
+    rw length-append (next_entry c.args.y c.requires c.loop-v.invariant t.0 (t.2 0) (t.3 nan) c.add_term.ensures)

@@ -1,10 +1,7 @@
 -- `put_items` meets its contract. Assumes nothing.
-use Prim.Native.Nat.{◌*◌, ◌-◌}
+use Prim.Native.Nat.{◌*◌}
 use Rattle.found_lists.proofs.Listing.{Listing}
 use Rattle.found_lists.proofs.put_items.Given as goal
 
 abbrev pub invariant-loop-m : goal.invariant-loop-m
-invariant-loop-m l = Listing l.marks l.initial.vars l.initial.ups (2 * l.count) l.m l.items l.vars l.ups
-
-abbrev pub decreases-loop-m : goal.decreases-loop-m
-decreases-loop-m l = 2 * l.count - l.m
+invariant-loop-m l = Listing l.fn.found.marks l.initial.vars l.initial.ups (2 * l.count) l.m l.items l.vars l.ups

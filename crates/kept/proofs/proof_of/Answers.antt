@@ -1,25 +1,31 @@
 -- `proof_of` meets its contract. Assumes nothing.
-use mathlib.Core.Path.{◌∙◌}
-use Rattle.sheet.specs.Sheet.{Sheet, sheet}
-use Rattle.added_row.specs.Added.{lists}
-use Rattle.kept.specs.Kept.{outputs, sizes, lent, Lent}
-use Rattle.kept.proofs.Whole.{accepts, answer_full, answer-refused}
+use mathlib.Core.Path.{◌≡◌, refl, sym, subst}
+use Rattle.refusal_numbers.specs.Numbers.{number_of}
+use Rattle.refusal_numbers.proofs.Numbers.{answered_err, answered_ok}
+use Rattle.sheet.specs.declared.answers.Outputs.{Outputs}
+use Rattle.sheet.specs.Lent.{lent_sheet}
+use Rattle.sheet_answers.specs.Answers.{first_no}
+use Rattle.kept.proofs.Whole.{after_full, after_refused}
 use Rattle.kept.proofs.proof_of.Goals as goal
-use Rattle.kept.proofs.proof_of.Tie as tie
-use Rattle.kept.proofs.proof_of.Reads as reads
-use Rattle.kept.proofs.proof_of.Lts as lts
-
-abbrev before : lts.Start tie.the-claims reads.Pre reads.Post tie.handed_clauses → Lent
-before c = lent (lists c.args.high.now c.args.low.now c.args.magnitudes.now c.args.terms.now) c.args.errors.now
-
-abbrev whole : lts.Start tie.the-claims reads.Pre reads.Post tie.handed_clauses → Sheet
-whole c = sheet (sizes c.args.rows c.args.structurals c.args.entry_count) c.args.feasibility c.args.checked c.args.leaving_row c.args.leaving_up (outputs (before c).lists_of (before c).errors) c.args.starts.now c.args.columns.now c.args.entries.now c.args.right_sides.now c.args.scales.now c.args.integer.now c.args.mins.now c.args.maxs.now c.args.low_tolerances.now c.args.high_tolerances.now c.args.basic.now c.args.places.now c.args.values.now c.args.widened_vars.now c.args.widened_ups.now c.args.rho_hi.now c.args.rho_lo.now c.args.second.now
 
 pub weighed-requires : goal.weighed-requires
-weighed-requires c = accepts (whole c.before.before.before.before.before.before.before.before.before.before.before.before.before.before.before.before.before.before.before.before.before.before.before.before.before.before.before.before.before.before.before.before) (before c.before.before.before.before.before.before.before.before.before.before.before.before.before.before.before.before.before.before.before.before.before.before.before.before.before.before.before.before.before.before.before.before) (c.number_of-number.ensures ∙ c.first_no.ensures) c.if-number-eq0.true
+weighed-requires c = sym (subst (λ (o : Outputs). 0 ≡ first_no (lent_sheet c.args.s.now o)) c.outputs_of.ensures c.in_ok-first_no.ensures)
 
-pub returns-then-number-eq0 : goal.returns-then-number-eq0
-returns-then-number-eq0 c = let all = answer_full (whole c.before.before.before.before.before.before.before.before.before.before.before.before.before.before.before.before.before.before.before.before.before.before.before.before.before.before.before.before.before.before.before.before.before.before.before.before.before.before.before.before.before.before.before) (before c.before.before.before.before.before.before.before.before.before.before.before.before.before.before.before.before.before.before.before.before.before.before.before.before.before.before.before.before.before.before.before.before.before.before.before.before.before.before.before.before.before.before.before) (c.number_of-number.ensures ∙ c.first_no.ensures) c.if-number-eq0.true c.weighed.ensures.value c.weighed.ensures.lent_after in record { value = all.0; lent_after = all.1 }
+pub returns-in_err-first_no : goal.returns-in_err-first_no
+returns-in_err-first_no c =
+    let refusal = c.in_err-first_no.field-0.0 in
+    let is = subst (λ (o : Outputs). number_of refusal ≡ first_no (lent_sheet c.args.s.now o)) c.outputs_of.ensures c.in_err-first_no.ensures in
+    record {
+      value = answered_err refusal _ c.from_residual.result c.from_residual.ensures.1 is;
+      lent_after = after_refused _ _ refusal is;
+      same_slices = record { high_is = refl; low_is = refl; magnitudes_is = refl; terms_is = refl };
+    }
 
-pub returns-else-number-eq0 : goal.returns-else-number-eq0
-returns-else-number-eq0 c = let all = answer-refused (whole c.before.before.before.before.before.before.before.before.before.before.before.before.before.before.before.before.before.before.before.before.before.before.before.before.before.before.before.before) (before c.before.before.before.before.before.before.before.before.before.before.before.before.before.before.before.before.before.before.before.before.before.before.before.before.before.before.before.before) (c.number_of-number.ensures ∙ c.first_no.ensures) c.if-number-eq0.false c.refused.ensures in record { value = all.0; lent_after = all.1 }
+pub returns : goal.returns
+returns c =
+    let none = subst (λ (o : Outputs). 0 ≡ first_no (lent_sheet c.args.s.now o)) c.outputs_of.ensures c.in_ok-first_no.ensures in
+    record {
+      value = answered_ok none c.weighed.ensures.value;
+      lent_after = after_full _ _ none c.weighed.ensures.lent_after;
+      same_slices = c.weighed.ensures.same_slices;
+    }

@@ -22,7 +22,7 @@ returns c =
     }
     in
     record {
-      value = read_is g;
+      value = rw (c.from.ensures, c.from-2.ensures) (read_is g);
       starts_after = rw (← rows_are g) c.read_rows-rows.ensures.starts_after;
       columns_after = rw (← pairs_are g) c.read_rows-rows.ensures.columns_after;
       entries_after = rw (← pairs_are g) c.read_rows-rows.ensures.entries_after;

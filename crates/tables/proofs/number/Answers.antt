@@ -1,45 +1,52 @@
 -- `tables::number` reads what the digits spell. Assumes nothing.
-use mathlib.Core.Path.{◌≡◌, sym, ◌∙◌}
-use Prim.Native.Nat.{ℕ, suc, ◌-◌, ◌≤◌, ◌<◌}
-use native.Mathlib.Nat.{add-zero}
-use native.Mathlib.Omega.{arith}
-use native.Mathlib.Numerals.{add-one}
-use borrow.Author.Tests.{ltb-false}
-use Rattle.tables.proofs.Laws.{digits_turn, digits_bad, digits_end, digits_short, digit_more, pow_fits}
+use Rattle.std.proofs.Common.{arith, ℕ, ◌≡◌, ◌+◌, ◌-◌, ◌<◌, ◌≤◌, get_or, None, sym, ◌∙◌}
+use Rattle.hex_digits.specs.Digit.{digit_of}
+use Rattle.tables.proofs.Laws.{digit_small, digits_none, digits_end, digits_short, digit_more, fits_so_far, byte_from, turn}
 use Rattle.tables.proofs.number.Goals as goal
-use Rattle.tables.proofs.number.Goals.{then-s-lt16-via-then-s-lt16, then-s-lt16-via-else-s-lt16+then-s-at}
+use Rattle.tables.proofs.number.Goals.{In-loop-byte}
 
-pub returns-then-s-lt16 : goal.returns-then-s-lt16
-returns-then-s-lt16 c =
-    sym (digits_short _ _ _ _ (omega arith) (elim c.then-s-lt16.branch [
-      | then-s-lt16-via-then-s-lt16 w ↦ omega (arith, w.if-s-lt16.true)
-      | then-s-lt16-via-else-s-lt16+then-s-at w ↦ omega (arith, w.if-s-lt16.false, w.if-s-at.true)
-    ]))
+pub returns-in_err-get : goal.returns-in_err-get
+returns-in_err-get c = c.from_residual.ensures ∙ sym (digits_short _ 16 0 _ (omega arith) (omega (arith, c.in_err-get.ensures.lookup.0)))
 
-pub loop-i-init : goal.loop-i-init
-loop-i-init c = (rw add-zero, (omega arith, (omega arith, omega (arith, ltb-false))))
+pub returns-in_err-field : goal.returns-in_err-field
+returns-in_err-field c =
+    c.from_residual-in_err-field.ensures
+    ∙ sym (digits_short _ 16 0 _ (omega arith) (omega (arith, c.in_err-field.ensures.lookup.0, c.in_ok-get.ensures.lookup.0.3)))
 
-pub returns-then-d-eq16 : goal.returns-then-d-eq16
-returns-then-d-eq16 c = sym (c.loop-i.invariant.0 ∙ digits_bad _ _ _ _ (omega arith) (sym c.digit-d.ensures.0 ∙ c.if-d-eq16.true))
+-- how far the turns go, and the byte of one
+below : (c : In-loop-byte) → c.loop-byte.byte-index < 16
+below c = omega (arith, c.in_ok-field.ensures.lookup.0.3)
 
--- a byte that is a digit
-below : (d : ℕ) → d ≤ 16 → (d ≡ 16 → ⊥) → d < 16
-below d h n = omega (arith, n)
+byte : (c : In-loop-byte) → get_or c.in_ok-field.field.now c.loop-byte.byte-index 0 ≡ get_or c.args.s.now (c.args.at + c.loop-byte.byte-index) 0
+byte c =
+    let rest = c.in_ok-get.ensures.lookup.0 in
+    let field = c.in_ok-field.ensures.lookup.0 in
+    byte_from _ _ _ c.args.at c.loop-byte.byte-index rest.2 rest.3 field.2 (below c) field.1
 
 pub overflow_mul-value : goal.overflow_mul-value
-overflow_mul-value c =
-    omega (arith, digit_more c.loop-i.value 0 c.loop-i.i c.loop-i.invariant.1.1.0 (omega arith), pow_fits (suc c.loop-i.i) (omega arith))
+overflow_mul-value c = omega (arith, fits_so_far c.loop-byte.value 0 c.loop-byte.byte-index c.loop-byte.invariant.small (omega arith) (below c))
+
+pub returns-in_err-value : goal.returns-in_err-value
+returns-in_err-value c =
+    let h = (goal.at.returns-in_err-value c).In-loop-byte in
+    let left : 0 < 16 - c.loop-byte.byte-index = omega (arith, below h) in
+    c.from_residual-in_err-value.ensures
+    ∙ sym (c.loop-byte.invariant.spelt ∙ digits_none _ _ _ _ left (rw (byte h) at (sym c.in_err-value.ensures)))
 
 pub overflow_add-value : goal.overflow_add-value
 overflow_add-value c =
-    omega (arith, digit_more c.loop-i.value c.digit-d.result c.loop-i.i c.loop-i.invariant.1.1.0 (below c.digit-d.result c.digit-d.ensures.1 c.if-d-eq16.false), pow_fits (suc c.loop-i.i) (omega arith))
+    let h = (goal.at.overflow_add-value c).In-loop-byte in
+    omega (arith, fits_so_far c.loop-byte.value c.in_ok-value.field-0 c.loop-byte.byte-index c.loop-byte.invariant.small (digit_small (get_or c.in_ok-field.field.now c.loop-byte.byte-index 0) _ (sym c.in_ok-value.ensures)) (below h))
 
-pub loop-i-preserved : goal.loop-i-preserved
-loop-i-preserved c = (
-  c.loop-i.invariant.0 ∙ digits_turn _ _ _ _ _ (omega arith) c.digit-d.ensures.0 c.if-d-eq16.false,
-  (omega arith, (rw add-one (digit_more _ _ _ c.loop-i.invariant.1.1.0 (below _ c.digit-d.ensures.1 c.if-d-eq16.false)), c.loop-i.invariant.1.1.1)),
-)
+pub loop-byte-preserved : goal.loop-byte-preserved
+loop-byte-preserved c =
+    let h = (goal.at.loop-byte-preserved c).In-loop-byte in
+    record {
+      spelt = turn _ _ _ _ _ c.loop-byte.invariant.spelt (below h) (rw (byte h) at (sym c.in_ok-value.ensures));
+      small = digit_more _ _ _ c.loop-byte.invariant.small (digit_small (get_or c.in_ok-field.field.now c.loop-byte.byte-index 0) _ (sym c.in_ok-value.ensures));
+    }
 
 pub returns : goal.returns
-returns c = let e : 16 - c.loop-i.i ≡ 0 = omega arith in
-    sym (c.loop-i.invariant.0 ∙ rw e (digits_end _ _ _))
+returns c =
+    let e : c.loop-byte.byte-index ≡ 16 = omega (arith, c.in_ok-field.ensures.lookup.0.3) in
+    sym (c.loop-byte.invariant.spelt ∙ rw e (digits_end _ _ _))

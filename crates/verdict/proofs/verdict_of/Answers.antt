@@ -1,44 +1,52 @@
 -- `verdict_of` meets its contract. Assumes nothing.
-use mathlib.Core.Path.{◌∙◌}
-use Rattle.doubles.proofs.Tests.{fit}
-use Rattle.sheet.specs.Sheet.{Doubles, Sheet, sheet}
-use Rattle.added_row.specs.Added.{lists}
-use Rattle.kept.specs.Kept.{Lent, lent, outputs, sizes}
-use Rattle.kept.proofs.Whole.{accepts}
-use Rattle.verdict.proofs.Whole.{verdict_full, verdict-refused}
+use mathlib.Core.Path.{◌≡◌, refl, sym, subst}
+use lib.Dec.{T}
+use lib.Ieee.{lt}
+use Rattle.cdouble.specs.Compensated.{plus_zero}
+use Rattle.refusal_numbers.specs.Numbers.{number_of}
+use Rattle.sheet.specs.declared.answers.Outputs.{Outputs}
+use Rattle.sheet.specs.Lent.{lent_sheet}
+use Rattle.sheet_answers.specs.Answers.{first_no}
+use Rattle.gaps.specs.Rows.{ranges_of, rows_of}
+use Rattle.gaps.specs.Steps.{outward_of}
+use Rattle.gaps.specs.ThirdDemand.{NoPoint}
+use Rattle.kept.specs.Kept.{sheet_lent}
+use Rattle.kept.proofs.Whole.{after_full, after_refused}
+use Rattle.verdict.proofs.Whole.{none_declined, rules_out, verdict_full, verdict-refused}
 use Rattle.verdict.proofs.verdict_of.Goals as goal
-use Rattle.verdict.proofs.verdict_of.Tie as tie
-use Rattle.verdict.proofs.verdict_of.Reads as reads
-use Rattle.verdict.proofs.verdict_of.Lts as lts
 
-abbrev before : lts.Start tie.the-claims reads.Pre reads.Post tie.handed_clauses → Lent
-before c = lent (lists c.args.high.now c.args.low.now c.args.magnitudes.now c.args.terms.now) c.args.errors.now
-
-abbrev whole : lts.Start tie.the-claims reads.Pre reads.Post tie.handed_clauses → Sheet
-whole c = sheet (sizes c.args.rows c.args.structurals c.args.entry_count) c.args.feasibility c.args.checked c.args.leaving_row c.args.leaving_up (outputs (before c).lists_of (before c).errors) c.args.starts.now c.args.columns.now c.args.entries.now c.args.right_sides.now c.args.scales.now c.args.integer.now c.args.mins.now c.args.maxs.now c.args.low_tolerances.now c.args.high_tolerances.now c.args.basic.now c.args.places.now c.args.values.now c.args.widened_vars.now c.args.widened_ups.now c.args.rho_hi.now c.args.rho_lo.now c.args.second.now
+pub returns-in_err-first_no : goal.returns-in_err-first_no
+returns-in_err-first_no c =
+    let whole = sheet_lent c.args.s.now c.args.l.now c.args.errors.now in
+    let refusal = c.in_err-first_no.field-0.0 in
+    let is =
+    subst (λ (o : Outputs). number_of refusal ≡ first_no (lent_sheet c.args.s.now o)) c.outputs_of-outputs.ensures c.in_err-first_no.ensures in
+    record {
+      value = verdict-refused whole refusal c.from_residual.result c.from_residual.ensures.1 is;
+      lent_after = after_refused _ _ refusal is;
+      no_point = none_declined whole refusal c.from_residual.result c.from_residual.ensures.1;
+      same_slices = record { high_is = refl; low_is = refl; magnitudes_is = refl; terms_is = refl };
+    }
 
 pub gap_of-outward-requires : goal.gap_of-outward-requires
-gap_of-outward-requires c = accepts (whole c.before.before.before.before.before.before.before.before.before.before.before.before.before.before.before.before.before.before.before.before.before.before.before.before.before.before.before) (before c.before.before.before.before.before.before.before.before.before.before.before.before.before.before.before.before.before.before.before.before.before.before.before.before.before.before.before) (c.number_of-number.ensures ∙ c.first_no.ensures) c.if-number-eq0.true
+gap_of-outward-requires c = sym c.in_ok-first_no.ensures
 
-pub weighed-kept-requires : goal.weighed-kept-requires
-weighed-kept-requires c = accepts (whole c.before.before.before.before.before.before.before.before.before.before.before.before.before.before.before.before.before.before.before.before.before.before.before.before.before.before.before.before.before.before.before.before.before) (before c.before.before.before.before.before.before.before.before.before.before.before.before.before.before.before.before.before.before.before.before.before.before.before.before.before.before.before.before.before.before.before.before.before) (c.number_of-number.ensures ∙ c.first_no.ensures) c.if-number-eq0.true
+pub weighed-requires : goal.weighed-requires
+weighed-requires c = sym (subst (λ (o : Outputs). 0 ≡ first_no (lent_sheet c.args.s.now o)) c.outputs_of-outputs.ensures c.in_ok-first_no.ensures)
 
-pub returns-then-number-eq0 : goal.returns-then-number-eq0
-returns-then-number-eq0 c = let doubles : Doubles (whole c.before.before.before.before.before.before.before.before.before.before.before.before.before.before.before.before.before.before.before.before.before.before.before.before.before.before.before.before.before.before.before.before.before.before.before.before.before.before.before.before.before.before.before.before.before) =
+pub returns : goal.returns
+returns c =
+    let whole = sheet_lent c.args.s.now c.args.l.now c.args.errors.now in
+    let lends = c.outputs_of-outputs.ensures in
+    let none = subst (λ (o : Outputs). 0 ≡ first_no (lent_sheet c.args.s.now o)) lends c.in_ok-first_no.ensures in
+    let gap_is = subst (λ (o : Outputs). c.gap_of-outward.result ≡ outward_of (lent_sheet c.args.s.now o)) lends c.gap_of-outward.ensures.value in
+    let above =
+    subst
+    (λ (o : Outputs). T (lt plus_zero c.gap_of-outward.result) → NoPoint (rows_of (lent_sheet c.args.s.now o)) (ranges_of (lent_sheet c.args.s.now o)))
+    lends c.gap_of-outward.ensures.no_point in
     record {
-      entries_fit = record { fit_at = c.shared_slice_known-3-1.given };
-      right_sides_fit = record { fit_at = c.shared_slice_known-4-1.given };
-      scales_fit = record { fit_at = c.shared_slice_known-5-1.given };
-      mins_fit = record { fit_at = c.shared_slice_known-7-1.given };
-      maxs_fit = record { fit_at = c.shared_slice_known-8-1.given };
-      low_fit = record { fit_at = c.shared_slice_known-9-1.given };
-      high_fit = record { fit_at = c.shared_slice_known-10-1.given };
-      values_fit = record { fit_at = c.shared_slice_known-13-1.given };
-      rho_hi_fit = record { fit_at = c.shared_slice_known-16-1.given };
-      rho_lo_fit = record { fit_at = c.shared_slice_known-17-1.given };
-      second_fit = record { fit_at = c.shared_slice_known-18-1.given };
-      feasibility_fits = fit c.args.feasibility c.well_formed.1.1.1.0.1;
-    } in let all = verdict_full (whole c.before.before.before.before.before.before.before.before.before.before.before.before.before.before.before.before.before.before.before.before.before.before.before.before.before.before.before.before.before.before.before.before.before.before.before.before.before.before.before.before.before.before.before.before.before) (before c.before.before.before.before.before.before.before.before.before.before.before.before.before.before.before.before.before.before.before.before.before.before.before.before.before.before.before.before.before.before.before.before.before.before.before.before.before.before.before.before.before.before.before.before.before) (c.number_of-number.ensures ∙ c.first_no.ensures) c.if-number-eq0.true c.gap_of-outward.ensures c.weighed-kept.ensures.value c.answered.ensures c.weighed-kept.ensures.lent_after doubles in record { value = all.0; lent_after = all.1.0; no_point = all.1.1 }
-
-pub returns-else-number-eq0 : goal.returns-else-number-eq0
-returns-else-number-eq0 c = let all = verdict-refused (whole c.before.before.before.before.before.before.before.before.before.before.before.before.before.before.before.before.before.before.before.before.before.before.before.before.before.before.before.before) (before c.before.before.before.before.before.before.before.before.before.before.before.before.before.before.before.before.before.before.before.before.before.before.before.before.before.before.before.before) (c.number_of-number.ensures ∙ c.first_no.ensures) c.if-number-eq0.false c.refused.ensures in record { value = all.0; lent_after = all.1.0; no_point = all.1.1 }
+      value = verdict_full whole c.with_outward.ensures none c.weighed.ensures.value gap_is;
+      lent_after = after_full _ _ none c.weighed.ensures.lent_after;
+      no_point = rules_out whole c.with_outward.ensures above;
+      same_slices = c.weighed.ensures.same_slices;
+    }

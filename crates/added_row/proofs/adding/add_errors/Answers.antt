@@ -1,19 +1,23 @@
 -- `add_errors` meets its contract. Assumes nothing.
-use Rattle.exact.proofs.Turns.{done}
-use Rattle.added_row.proofs.Turns.{first_error, error_asks, next_error, errors_same}
+use lib.Ieee.{nan}
+use lib.ListN.{length-append}
+use Rattle.std.proofs.lemmas.Slice.Zip.{zip_turn}
+use Rattle.added_row.proofs.Turns.{first_error, error_asks, next_error}
 use Rattle.added_row.proofs.adding.add_errors.Goals as goal
 
-pub loop-k-init : goal.loop-k-init
-loop-k-init c = first_error c.args.distance c.requires
+pub loop-v-init : goal.loop-v-init
+loop-v-init c = first_error c.args.distance c.requires
 
 pub add_error-requires : goal.add_error-requires
-add_error-requires c = error_asks c.args.distance c.requires c.loop-k.invariant c.loop-k-test.true
+add_error-requires c =
+    let t =
+    zip_turn c.args.columns.now c.args.entries.now c.loop-v.yielded c.into_iter-v-iterator.result c.loop-v.v-iterator c.next.new.self _
+    (cc) (cc) c.loop-v.yielded_by _ c.in-Some.is c.next.ensures.steps in
+    error_asks c.args.distance c.requires c.loop-v.invariant t.0 (t.2 0)
 
-pub loop-k-preserved : goal.loop-k-preserved
-loop-k-preserved c = next_error c.args.distance c.requires c.loop-k.invariant c.loop-k-test.true c.add_error.ensures
-
-pub shape_of-errors : goal.shape_of-errors
-shape_of-errors c = errors_same c.args.distance c.requires c.loop-k.invariant
-
-pub returns : goal.returns
-returns c = done c.loop-k.invariant c.loop-k-test.false
+pub loop-v-preserved : goal.loop-v-preserved
+loop-v-preserved c =
+    let t =
+    zip_turn c.args.columns.now c.args.entries.now c.loop-v.yielded c.into_iter-v-iterator.result c.loop-v.v-iterator c.next.new.self _
+    (cc) (cc) c.loop-v.yielded_by _ c.in-Some.is c.next.ensures.steps in
+    rw length-append (next_error c.args.distance c.requires c.loop-v.invariant t.0 (t.2 0) (t.3 nan) c.add_error.ensures)

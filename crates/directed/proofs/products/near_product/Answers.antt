@@ -1,11 +1,11 @@
 -- `near_product` meets its contract. Assumes nothing.
+use mathlib.Core.Bool.{true, false}
 use mathlib.Core.Path.{◌∙◌}
-use lib.Ieee.{of_bits}
 use Rattle.doubles.proofs.Tests.{fit}
 use Rattle.directed.specs.Far.{Far}
 use Rattle.directed.proofs.Inexact.{far_clear}
 use Rattle.directed.proofs.Limits.{far_tested}
-use Rattle.directed.proofs.Rounded.{product_up_is, product_down_is, product_fits, product_finite_hi}
+use Rattle.directed.proofs.Rounded.{product_is, product_fits, product_finite_hi}
 use Rattle.directed.proofs.products.near_product.Goals as goal
 use Rattle.directed.proofs.products.near_product.Tie as tie
 use Rattle.directed.proofs.products.near_product.Reads as reads
@@ -15,18 +15,21 @@ is-far : (c : lts.Then1 tie.the-claims reads.Pre reads.Post) → Far c.two_produ
 is-far c =
     let ha = fit c.args.a c.well_formed.0.1 in
     let hb = fit c.args.b c.well_formed.1.0.1 in
-    far_tested c.two_product-p.result.hi (product_finite_hi c.args.a c.args.b ha hb c.requires.0 c.requires.1 c.two_product-p.result c.two_product-p.ensures.0) (product_fits c.args.a c.args.b ha hb c.requires.0 c.requires.1 c.two_product-p.result c.two_product-p.ensures.0) c.far.ensures c.if-far.true
+    let p = c.two_product-p.result in
+    let is = c.two_product-p.ensures.0 in
+    far_tested p.hi (product_finite_hi c.args.a c.args.b ha hb c.requires.0 c.requires.1 p is) (product_fits c.args.a c.args.b ha hb c.requires.0 c.requires.1 p is) c.far.ensures c.if-far.true
 
-pub below-down-requires : goal.below-down-requires
-below-down-requires c = far_clear (is-far c.before) _
+pub outward-requires : goal.outward-requires
+outward-requires c = far_clear (is-far c) _
 
-pub above-up-requires : goal.above-up-requires
-above-up-requires c = far_clear (is-far c.before.before.before) _
+pub outward-requires-then-far : goal.outward-requires-then-far
+outward-requires-then-far c = far_clear (is-far c.before) _
 
 pub returns-then-far : goal.returns-then-far
-unfolding of_bits
-returns-then-far c = let ha = fit c.args.a c.well_formed.0.1 in
-    let hb = fit c.args.b c.well_formed.1.0.1 in (
-      c.below-down.ensures ∙ product_down_is c.args.a c.args.b ha hb c.requires.0 c.requires.1 c.two_product-p.result c.two_product-p.ensures.0 (is-far c.before.before.before.before),
-      c.above-up.ensures ∙ product_up_is c.args.a c.args.b ha hb c.requires.0 c.requires.1 c.two_product-p.result c.two_product-p.ensures.0 (is-far c.before.before.before.before),
-    )
+returns-then-far c =
+    let ha = fit c.args.a c.well_formed.0.1 in
+    let hb = fit c.args.b c.well_formed.1.0.1 in
+    let p = c.two_product-p.result in
+    let is = c.two_product-p.ensures.0 in
+    let far = is-far c.before.before in
+    (c.outward.ensures ∙ product_is c.args.a c.args.b ha hb c.requires.0 c.requires.1 false p is far, c.outward-then-far.ensures ∙ product_is c.args.a c.args.b ha hb c.requires.0 c.requires.1 true p is far)

@@ -1,17 +1,17 @@
 -- `next_up` meets its contract: each way through the code is a step of the rank. Assumes nothing.
 use native.Mathlib.Omega.{arith}
-use Rattle.doubles.proofs.Tests.{is_nan_lem, not_nan, fit}
+use mathlib.Core.Path.{sym, ◌∙◌}
+use Rattle.doubles.proofs.Tests.{fit}
 use Rattle.doubles.proofs.Steps.{Number, next_nan, up_positive, up_infinity, up_minus_zero, below_bits, up_negative}
+use Rattle.double_bits.proofs.Nan.{nan_is}
 use Rattle.double_bits.proofs.neighbours.next_up.Goals as goal
+use Rattle.double_bits.proofs.neighbours.next_up.Goals.{Else-is_nan}
 
-number : (c : goal.Else-x) → Number c.args.x
-number c = record { no_nan = not_nan c.args.x c.if-x.false; fit = fit c.args.x c.well_formed.0.1 }
+number : (c : Else-is_nan) → Number c.args.x
+number c = record { no_nan = c.if-is_nan.ensures.not_nan; fit = fit c.args.x c.well_formed.0.1 }
 
-pub returns-then-x : goal.returns-then-x
-returns-then-x c = next_nan c.args.x (is_nan_lem c.args.x c.if-x.true)
-
-pub float_to_bits-b : goal.float_to_bits-b
-float_to_bits-b c = (number c).no_nan
+pub returns-then-is_nan : goal.returns-then-is_nan
+returns-then-is_nan c = next_nan c.args.x (nan_is c.args.x (sym c.is_nan.ensures.value ∙ c.if-is_nan.true))
 
 pub overflow_sub-b : goal.overflow_sub-b
 overflow_sub-b c = let r = below_bits (number c.before.before.before) c.if-b-lt-INFINITY.false c.if-b-eq-INFINITY.false c.if-b.false in omega arith

@@ -1,16 +1,8 @@
 -- `needs_infinite_side` meets its contract. Assumes nothing.
 use mathlib.Core.Path.{refl}
-use lib.Ieee.{nan_bits, of_bits}
+use lib.Ieee.{of_bits}
 use Rattle.cdouble.proofs.Contracts.{when_true, when_false}
 use Rattle.multipliers.proofs.weighing.needs_infinite_side.Goals as goal
-
-pub float_from_bits-result : goal.float_from_bits-result
-unfolding nan_bits
-float_from_bits-result c = tt
-
-pub float_from_bits-result-else-y_value : goal.float_from_bits-result-else-y_value
-unfolding nan_bits
-float_from_bits-result-else-y_value c = tt
 
 pub returns-then-y_value : goal.returns-then-y_value
 unfolding of_bits

@@ -1,24 +1,14 @@
 -- `difference` meets its contract. Assumes nothing.
-use lib.Ieee.{nan_bits, of_bits}
-use Rattle.outward_sheet.proofs.Gap.{difference_infinite, difference_rounded}
+use mathlib.Core.Path.{refl}
+use lib.Ieee.{of_bits}
+use Rattle.cdouble.proofs.Contracts.{when_true, when_false}
+use Rattle.gaps.specs.Steps.{difference}
 use Rattle.outward_sheet.proofs.reckoning.difference.Goals as goal
 
-pub float_from_bits-t-3 : goal.float_from_bits-t-3
-unfolding nan_bits
-float_from_bits-t-3 c = tt
-
-pub float_from_bits-t-5 : goal.float_from_bits-t-5
-unfolding nan_bits
-float_from_bits-t-5 c = tt
-
-pub float_from_bits-result : goal.float_from_bits-result
-unfolding nan_bits
-float_from_bits-result c = tt
-
 pub returns-then-b-m : goal.returns-then-b-m
-unfolding of_bits
-returns-then-b-m c = difference_infinite c.args.b c.args.m c.if-b-m.true
+unfolding of_bits difference
+returns-then-b-m c = when_true _ refl c.if-b-m.true
 
 pub returns-else-b-m : goal.returns-else-b-m
-unfolding of_bits
-returns-else-b-m c = difference_rounded c.args.b c.args.m c.if-b-m.false c.sum_down.ensures
+unfolding of_bits difference
+returns-else-b-m c = when_false _ c.rounded_sum.ensures c.if-b-m.false

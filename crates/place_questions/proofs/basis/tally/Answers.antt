@@ -1,19 +1,26 @@
 -- `tally` meets its contract. Assumes nothing.
 use native.Mathlib.Omega.{arith}
-use Rattle.place_questions.proofs.Tallies.{first, asks, next, keeps_length, done}
+use Rattle.std.proofs.lemmas.List.{length_push}
+use Rattle.std.proofs.lemmas.Slice.Zip.{zip_turn}
+use Rattle.place_questions.proofs.Tallies.{first, asks, next}
 use Rattle.place_questions.proofs.basis.tally.Goals as goal
 
-pub loop-v-init : goal.loop-v-init
-loop-v-init c = first c.requires
+pub loop-flag-init : goal.loop-flag-init
+loop-flag-init c = first c.requires
 
 pub count-requires : goal.count-requires
-count-requires c = asks c.requires c.loop-v.invariant c.loop-v-test.true (omega (arith, c.well_formed.1.0.0))
+count-requires c =
+    let turn =
+    zip_turn c.args.basic.now c.args.places.now c.loop-flag.yielded _ _ c.next.new.self _ (cc) (cc) c.loop-flag.yielded_by
+    (c.in-Some.flag, c.in-Some.place) c.in-Some.is c.next.ensures.steps
+    in
+    rw (turn.2 0, turn.3 0) (asks c.requires c.loop-flag.invariant turn.0 (omega (arith, c.iter.ensures.bound)))
 
-pub loop-v-preserved : goal.loop-v-preserved
-loop-v-preserved c = next c.requires c.loop-v.invariant c.loop-v-test.true c.count.ensures
-
-pub shape_of-counts : goal.shape_of-counts
-shape_of-counts c = keeps_length c.requires c.loop-v.invariant
-
-pub returns : goal.returns
-returns c = done c.requires c.loop-v.invariant c.loop-v-test.false
+pub loop-flag-preserved : goal.loop-flag-preserved
+loop-flag-preserved c =
+    let turn =
+    zip_turn c.args.basic.now c.args.places.now c.loop-flag.yielded _ _ c.next.new.self _ (cc) (cc) c.loop-flag.yielded_by
+    (c.in-Some.flag, c.in-Some.place) c.in-Some.is c.next.ensures.steps
+    in
+    rw (length_push c.loop-flag.yielded (c.in-Some.flag, c.in-Some.place))
+    (next c.requires c.loop-flag.invariant turn.0 (rw (turn.2 0, turn.3 0) at c.count.ensures))

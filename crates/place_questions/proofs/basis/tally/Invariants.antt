@@ -1,11 +1,7 @@
 -- `tally` meets its contract. Assumes nothing.
-use Prim.Native.Nat.{◌-◌}
 use lib.ListN.{length}
 use Rattle.place_questions.proofs.Tallies.{Counted}
 use Rattle.place_questions.proofs.basis.tally.Given as goal
 
-abbrev pub invariant-loop-v : goal.invariant-loop-v
-invariant-loop-v l = Counted l.basic l.places l.initial.counts l.v l.counts
-
-abbrev pub decreases-loop-v : goal.decreases-loop-v
-decreases-loop-v l = length l.basic - l.v
+abbrev pub invariant-loop-flag : goal.invariant-loop-flag
+invariant-loop-flag l = Counted l.basic l.places l.initial.counts (length l.yielded) l.counts

@@ -1,20 +1,16 @@
 -- `all_plain` meets its contract. Assumes nothing.
-use Rattle.questions.specs.Questions.{all_plain}
-use Rattle.questions.proofs.All.{first, next, stop, done}
-use mathlib.Core.Path.{ap}
-use mathlib.Core.Bool.{not}
+use mathlib.Core.Path.{◌∙◌}
+use borrow.Author.Rules.{rules}
+use Rattle.std.proofs.Common.{tests}
+use Rattle.std.proofs.lemmas.Iterator.{YieldsList-from_slice}
+use Rattle.std.proofs.lemmas.Iterator.Search.{all_from_yields_List}
+use Rattle.questions.proofs.All.{all_places}
+use lib.Ieee.{nan}
+use Rattle.questions.specs.Questions.{plain, all_plain}
 use Rattle.questions.proofs.lists.all_plain.Goals as goal
-
-pub loop-k-init : goal.loop-k-init
-loop-k-init c = first
-
-pub returns-then-not-is_plain : goal.returns-then-not-is_plain
-unfolding all_plain
-returns-then-not-is_plain c = stop c.loop-k.invariant c.loop-k-test.true (ap not c.if-not-is_plain.true) c.is_plain.ensures
-
-pub loop-k-preserved : goal.loop-k-preserved
-loop-k-preserved c = next c.loop-k.invariant c.loop-k-test.true (ap not c.if-not-is_plain.false) c.is_plain.ensures
 
 pub returns : goal.returns
 unfolding all_plain
-returns c = done c.loop-k.invariant c.loop-k-test.false
+returns c =
+    all_from_yields_List plain _ _ _ c.all.ensures.ran (YieldsList-from_slice c.args.xs.now cc) (λ x b q k. search (rules, tests))
+    ∙ all_places plain nan c.args.xs.now

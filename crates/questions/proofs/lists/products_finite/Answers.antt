@@ -1,17 +1,17 @@
 -- `products_finite` meets its contract. Assumes nothing.
-use Rattle.questions.proofs.All.{first, next, stop, done}
-use mathlib.Core.Path.{ap}
-use mathlib.Core.Bool.{not}
+use mathlib.Core.Path.{◌∙◌}
+use mathlib.Core.Bool.{Bool}
+use borrow.Author.Rules.{rules}
+use Rattle.std.proofs.Common.{tests}
+use Rattle.std.proofs.lemmas.Iterator.{YieldsList-from_slice}
+use Rattle.std.proofs.lemmas.Iterator.Search.{all_from_yields_List}
+use Rattle.questions.proofs.All.{all_places}
+use lib.Ieee.{Float, binary64, mul, nan}
+use lib.Ieee.Scale.{finite}
 use Rattle.questions.proofs.lists.products_finite.Goals as goal
 
-pub loop-k-init : goal.loop-k-init
-loop-k-init c = first
-
-pub returns-then-not-is_finite : goal.returns-then-not-is_finite
-returns-then-not-is_finite c = stop c.loop-k.invariant c.loop-k-test.true (ap not c.if-not-is_finite.true) c.is_finite.ensures
-
-pub loop-k-preserved : goal.loop-k-preserved
-loop-k-preserved c = next c.loop-k.invariant c.loop-k-test.true (ap not c.if-not-is_finite.false) c.is_finite.ensures
-
 pub returns : goal.returns
-returns c = done c.loop-k.invariant c.loop-k-test.false
+returns c =
+    let test : Float → Bool = λ y. finite (mul binary64 c.args.x y) in
+    all_from_yields_List test _ _ _ c.all.ensures.ran (YieldsList-from_slice c.args.ys.now cc) (λ x b q k. search (rules, tests))
+    ∙ all_places test nan c.args.ys.now

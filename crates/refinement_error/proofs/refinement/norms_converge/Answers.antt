@@ -1,8 +1,10 @@
 -- `norms_converge` meets its contract. Assumes nothing.
 use lib.Ieee.{of_bits}
-use Rattle.refinement_error.proofs.Branches.{converges_is}
+use mathlib.Core.Path.{ap, sym, ◌∙◌}
+use Rattle.std.proofs.Common.{Some}
+use Rattle.refinement_error.specs.Refinement.{converges}
 use Rattle.refinement_error.proofs.refinement.norms_converge.Goals as goal
 
-pub returns-in-Largest-second_norm : goal.returns-in-Largest-second_norm
+pub returns-in-Some-Some : goal.returns-in-Some-Some
 unfolding of_bits
-returns-in-Largest-second_norm c = converges_is c.in-Largest.is c.in-Largest-second_norm.is
+returns-in-Some-Some c = ap (converges (Some c.in-Some-Some.x)) (sym c.in-Some-Some.is-1) ∙ ap (λ n. converges n c.args.second_norm) (sym c.in-Some-Some.is-0)

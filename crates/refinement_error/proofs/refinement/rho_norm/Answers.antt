@@ -1,19 +1,22 @@
 -- `rho_norm` meets its contract. Assumes nothing.
-use lib.Ieee.{of_bits}
-use mathlib.Core.Path.{ap, ◌∙◌}
-use lib.ListN.{length}
+use lib.Ieee.{of_bits, nan}
+use lib.ListN.{length, length-append}
+use Rattle.std.proofs.lemmas.Slice.Zip.{zip_turn}
 use Rattle.cdouble.specs.Compensated.{value}
-use Rattle.refinement_error.specs.Refinement.{finite_max_norm, norm_with, rho_at}
-use Rattle.exact.proofs.Turns.{first, done}
+use Rattle.refinement_error.specs.Refinement.{finite_max_norm, rho_at}
+use Rattle.exact.proofs.Turns.{first}
 use Rattle.refinement_error.proofs.Turns.{next_number}
 use Rattle.refinement_error.proofs.refinement.rho_norm.Goals as goal
 
-pub loop-r-init : goal.loop-r-init
+pub loop-hi-init : goal.loop-hi-init
 unfolding finite_max_norm of_bits
-loop-r-init c = first (finite_max_norm (λ k. value (rho_at c.args.rho_hi.now c.args.rho_lo.now k))) (length c.args.rho_hi.now)
+loop-hi-init c = first (finite_max_norm (λ k. value (rho_at c.args.rho_hi.now c.args.rho_lo.now k))) (length c.args.rho_hi.now)
 
-pub loop-r-preserved : goal.loop-r-preserved
-loop-r-preserved c = next_number (λ k. value (rho_at c.args.rho_hi.now c.args.rho_lo.now k)) (length c.args.rho_hi.now) c.loop-r.invariant c.loop-r-test.true (c.norm_with-norm.ensures ∙ ap (norm_with c.loop-r.norm) c.value.ensures)
-
-pub returns : goal.returns
-returns c = done c.loop-r.invariant c.loop-r-test.false
+pub loop-hi-preserved : goal.loop-hi-preserved
+loop-hi-preserved c =
+    let t =
+    zip_turn c.args.rho_hi.now c.args.rho_lo.now c.loop-hi.yielded c.into_iter-hi-iterator.result c.loop-hi.hi-iterator c.next.new.self _
+    (cc) (cc) c.loop-hi.yielded_by _ c.in-Some.is c.next.ensures.steps in
+    rw length-append
+    (next_number (λ k. value (rho_at c.args.rho_hi.now c.args.rho_lo.now k)) (length c.args.rho_hi.now) c.loop-hi.invariant t.0 c.norm_with-norm.ensures
+    (rw (t.2 nan, t.3 nan) at c.value.ensures))

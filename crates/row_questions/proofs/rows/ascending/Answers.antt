@@ -1,18 +1,14 @@
 -- `ascending` meets its contract. Assumes nothing.
-use mathlib.Core.Path.{refl}
-use Rattle.questions.proofs.All.{first, next, stop, done}
-use mathlib.Core.Path.{ap}
-use mathlib.Core.Bool.{not}
+use borrow.Author.Rules.{rules}
+use mathlib.Core.Bool.{Bool, ◌&&◌}
+use Prim.Native.Nat.{ℕ}
+use lib.Dec.{ltb}
+use Rattle.std.proofs.Common.{tests}
+use Rattle.std.proofs.lemmas.Fn.{always_returns_same}
+use Rattle.questions.proofs.All.{all_neighbours}
 use Rattle.row_questions.proofs.rows.ascending.Goals as goal
 
-pub loop-k-init : goal.loop-k-init
-loop-k-init c = first
-
-pub returns-then-not-column-structurals : goal.returns-then-not-column-structurals
-returns-then-not-column-structurals c = stop c.loop-k.invariant c.loop-k-test.true (ap not c.if-not-column-structurals.true) refl
-
-pub loop-k-preserved : goal.loop-k-preserved
-loop-k-preserved c = next c.loop-k.invariant c.loop-k-test.true (ap not c.if-not-column-structurals.false) refl
-
 pub returns : goal.returns
-returns c = done c.loop-k.invariant c.loop-k-test.false
+returns c =
+    let test : ℕ → ℕ → Bool = λ column next. ltb column c.args.structurals && ltb column next in
+    all_neighbours test 0 c.args.columns.now c.is_sorted_by.result (c.is_sorted_by.ensures.cases test (always_returns_same _ _ _ (λ a r f k. search (rules, tests))))

@@ -1,9 +1,14 @@
 -- `row_columns_fine` meets its contract. Assumes nothing.
-use Rattle.row_questions.proofs.Tests.{no_columns, some_columns}
+use mathlib.Core.Path.{refl}
+use borrow.Author.Tests.{le-leb, lt-leb}
+use lib.ListN.{length}
+use Rattle.row_questions.specs.Questions.{row_columns_fine}
 use Rattle.row_questions.proofs.rows.row_columns_fine.Goals as goal
 
-pub returns-then-columns-eq0 : goal.returns-then-columns-eq0
-returns-then-columns-eq0 c = no_columns c.args.structurals c.args.slack c.args.columns.now c.if-columns-eq0.true
+pub returns-in-empty : goal.returns-in-empty
+unfolding row_columns_fine
+returns-in-empty c = rw (lt-leb 1 (length c.args.columns.now) c.in-empty.len_below) refl
 
-pub returns : goal.returns
-returns c = some_columns c.args.structurals c.args.slack c.args.columns.now c.if-columns-eq0.false c.ascending.ensures
+pub returns-in-len1-up : goal.returns-in-len1-up
+unfolding row_columns_fine
+returns-in-len1-up c = rw (c.ascending.ensures, le-leb 1 (length c.args.columns.now) c.in-len1-up.len_at_least) refl

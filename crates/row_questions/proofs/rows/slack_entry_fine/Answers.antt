@@ -5,9 +5,9 @@ use Rattle.row_questions.specs.Questions.{slack_entry_fine}
 use Rattle.row_questions.proofs.Tests.{no_entries}
 use Rattle.row_questions.proofs.rows.slack_entry_fine.Goals as goal
 
-pub returns-then-entries-eq0 : goal.returns-then-entries-eq0
-returns-then-entries-eq0 c = no_entries c.args.entries.now c.if-entries-eq0.true
+pub returns-in-empty : goal.returns-in-empty
+returns-in-empty c = no_entries c.args.entries.now c.in-empty.len_below
 
-pub returns : goal.returns
+pub returns-in-len1-up : goal.returns-in-len1-up
 unfolding slack_entry_fine of_bits
-returns c = refl
+returns-in-len1-up c = refl

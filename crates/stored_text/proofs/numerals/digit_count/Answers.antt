@@ -1,22 +1,22 @@
 -- `digit_count` meets its contract. Assumes nothing.
-use native.Mathlib.Omega.{arith}
-use Rattle.stored_text.proofs.Numbers.{more_left, counting_next, counting_done}
+use Rattle.std.proofs.Common.{arith, ◌≡◌, ◌+◌, ◌-◌}
+use Rattle.stored_text.proofs.Numbers.{one_digit_more, one_digit, last_digit_counted}
 use Rattle.stored_text.proofs.numerals.digit_count.Goals as goal
 
-pub loop-left-init : goal.loop-left-init
-loop-left-init c = record { counted = omega arith; most = omega arith }
+pub loop-count-init : goal.loop-count-init
+loop-count-init c = omega arith
 
-pub overflow_sub-left : goal.overflow_sub-left
-overflow_sub-left c = more_left c.loop-left.left c.loop-left.rest c.loop-left-test.true
+pub returns-then-rest-lt10 : goal.returns-then-rest-lt10
+returns-then-rest-lt10 c =
+    (omega (arith, c.loop-count.invariant, one_digit (20 - c.loop-count.count) c.loop-count.rest c.if-rest-lt10.true), omega arith)
 
-pub loop-left-smaller : goal.loop-left-smaller
-loop-left-smaller c = omega (arith, more_left c.loop-left.left c.loop-left.rest c.loop-left-test.true)
-
-pub loop-left-preserved : goal.loop-left-preserved
-loop-left-preserved c = counting_next c.loop-left.invariant c.loop-left-test.true
-
-pub overflow_sub-result : goal.overflow_sub-result
-overflow_sub-result c = omega (arith, c.loop-left.invariant.most)
+pub loop-count-preserved : goal.loop-count-preserved
+loop-count-preserved c =
+    let e : 20 - c.loop-count.count - 1 ≡ 20 - (c.loop-count.count + 1) = omega arith in
+    let more = one_digit_more (20 - c.loop-count.count) c.loop-count.rest (omega arith) c.if-rest-lt10.false in
+    omega (arith, c.loop-count.invariant, rw e at more)
 
 pub returns : goal.returns
-returns c = counting_done c.loop-left.invariant c.loop-left-test.false
+returns c =
+    let e : c.loop-count.count ≡ 20 = omega arith in
+    (omega (arith, rw e at c.loop-count.invariant, last_digit_counted c.loop-count.rest), omega arith)

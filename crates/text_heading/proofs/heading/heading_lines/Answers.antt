@@ -1,4 +1,4 @@
--- `text_lines::heading::heading_lines` reads the first two lines. Assumes nothing.
+-- `heading_lines` reads the first two lines. Assumes nothing.
 use Rattle.text_heading.specs.Lines.{heading}
 use Rattle.text_heading.proofs.heading.heading_lines.Goals as goal
 

@@ -1,5 +1,5 @@
 -- `read_rows` meets its contract. Assumes nothing.
-use Prim.Native.Nat.{◌-◌, ◌+◌}
+use Prim.Native.Nat.{◌+◌}
 use Rattle.repeats.proofs.Runs.{Leads, Fills}
 use Rattle.repeats.proofs.Gathers.{Gathers}
 use Rattle.text_rows.specs.declared.row_items.Pair.{Pair}
@@ -10,14 +10,13 @@ use Rattle.text_lists.proofs.row_lists.read_rows.Given as goal
 
 abbrev pub invariant-loop-i : goal.invariant-loop-i
 invariant-loop-i l =
-    Leads (row_at l.text) after_row l.rows (no_pair_yet l.position) l.i (record { count = l.count; next = l.next })
-    × (Fills (row_at l.text) after_row (λ (row : RowLine). row.right) l.rows (no_pair_yet l.position) 0 l.initial.right_sides l.i (record { count = l.count; next = l.next }) l.i l.right_sides
-    × (Fills (row_at l.text) after_row (λ (row : RowLine). row.scale) l.rows (no_pair_yet l.position) 0 l.initial.scales l.i (record { count = l.count; next = l.next }) l.i l.scales
-    × (Fills (row_at l.text) after_row (λ (row : RowLine). row.end) l.rows (no_pair_yet l.position) 1 l.initial.starts l.i (record { count = l.count; next = l.next }) (l.i + 1) l.starts
-    × (Gathers (row_at l.text) after_row (pairs_at l.text) (λ (item : Pair). item.column) (λ (reached : Reached). reached.count)
-    l.rows (no_pair_yet l.position) l.initial.columns l.i (record { count = l.count; next = l.next }) l.columns
-    × (Gathers (row_at l.text) after_row (pairs_at l.text) (λ (item : Pair). item.entry) (λ (reached : Reached). reached.count)
-    l.rows (no_pair_yet l.position) l.initial.entries l.i (record { count = l.count; next = l.next }) l.entries)))))
-
-abbrev pub decreases-loop-i : goal.decreases-loop-i
-decreases-loop-i l = l.rows - l.i
+    let start : Reached = no_pair_yet l.fn.position in
+    let here : Reached = record { count = l.count; next = l.next } in
+    record {
+      leads : Leads (row_at l.text) after_row l.rows start l.i here;
+      in_right_sides : Fills (row_at l.text) after_row (λ (row : RowLine). row.right) l.rows start 0 l.initial.right_sides l.i here l.i l.right_sides;
+      in_scales : Fills (row_at l.text) after_row (λ (row : RowLine). row.scale) l.rows start 0 l.initial.scales l.i here l.i l.scales;
+      in_starts : Fills (row_at l.text) after_row (λ (row : RowLine). row.end) l.rows start 1 l.initial.starts l.i here (l.i + 1) l.starts;
+      in_columns : Gathers (row_at l.text) after_row (pairs_at l.text) (λ (item : Pair). item.column) (λ (reached : Reached). reached.count) l.rows start l.initial.columns l.i here l.columns;
+      in_entries : Gathers (row_at l.text) after_row (pairs_at l.text) (λ (item : Pair). item.entry) (λ (reached : Reached). reached.count) l.rows start l.initial.entries l.i here l.entries;
+    }

@@ -1,4 +1,4 @@
--- `text_lines::variable_lines::variable_from` reads a variable's line from its bounds on. Assumes nothing.
+-- `variable_from` reads a variable's line from its bounds on. Assumes nothing.
 use Rattle.text_variable_line.specs.Lines.{variable_from}
 use Rattle.text_variable_line.proofs.variable_lines.variable_from.Goals as goal
 

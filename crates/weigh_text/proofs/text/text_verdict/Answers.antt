@@ -2,6 +2,7 @@
 use native.Mathlib.Omega.{arith}
 use mathlib.Core.Path.{refl}
 use Prim.Native.Nat.{ℕ, ◌+◌}
+use mathlib.Core.List.{List}
 use lib.ListN.{replicate, length-replicate}
 use lib.Ieee.{Float, of_bits}
 use Rattle.cdouble.specs.Compensated.{plus_zero}
@@ -15,14 +16,11 @@ use borrow.Author.Rules.{rules}
 use mathlib.Core.Path.{ap}
 use mathlib.Core.Bool.{not}
 use Rattle.weigh_text.proofs.text.text_verdict.Goals as goal
-use Rattle.weigh_text.proofs.text.text_verdict.Tie as tie
-use Rattle.weigh_text.proofs.text.text_verdict.Reads as reads
-use Rattle.weigh_text.proofs.text.text_verdict.Lts as lts
 
 -- the lists before anything is read
-abbrev room : lts.Start tie.the-claims reads.Pre reads.Post tie.handed_clauses → Sheet
-room c =
-    read_with (read_in c.args.text.now)
+abbrev room : List ℕ → Sheet
+room text =
+    read_with (read_in text)
     (replicate (most_rows + 1) 0)
     (replicate most_entries 0)
     (replicate most_entries plus_zero)
@@ -42,8 +40,8 @@ room c =
     (replicate most_rows plus_zero)
     (replicate most_rows plus_zero)
 
-room-for-all : (c : lts.Start tie.the-claims reads.Pre reads.Post tie.handed_clauses) → HasRoom (room c)
-room-for-all c =
+room-for-all : (text : List ℕ) → HasRoom (room text)
+room-for-all text =
     record {
       in_starts = omega (arith, length-replicate {A = ℕ} (most_rows + 1) 0);
       in_columns = omega (arith, length-replicate {A = ℕ} most_entries 0);
@@ -66,12 +64,13 @@ room-for-all c =
     }
 
 pub returns-then-not-follows_form : goal.returns-then-not-follows_form
-returns-then-not-follows_form c = let all = text_refused c.args.text.now c.read_sheet-read.ensures.value c.follows_form.ensures (ap not c.if-not-follows_form.true) c.refused.ensures in record { value = all.0; no_point = all.1 }
+returns-then-not-follows_form c =
+    record { value = text_refused c.args.text.now c.read_sheet-read.ensures.value c.follows_form.ensures (ap not c.if-not-follows_form.true); no_point = tt }
 
 pub verdict_on-requires : goal.verdict_on-requires
 unfolding of_bits
-verdict_on-requires c = lists_have_room c.args.text.now (room c.before.before.before.before.before.before.before.before.before.before.before.before.before.before.before.before.before.before.before.before.before.before.before.before.before.before.before.before.before.before.before.before.before.before.before.before.before.before.before.before.before.before.before.before.before.before.before.before.before.before.before.before.before.before.before.before.before.before.before) c.read_sheet-read.ensures.value c.read_sheet-read.ensures.starts_after c.read_sheet-read.ensures.columns_after c.read_sheet-read.ensures.entries_after c.read_sheet-read.ensures.right_sides_after c.read_sheet-read.ensures.scales_after c.read_sheet-read.ensures.integer_after c.read_sheet-read.ensures.mins_after c.read_sheet-read.ensures.maxs_after c.read_sheet-read.ensures.low_tolerances_after c.read_sheet-read.ensures.high_tolerances_after c.read_sheet-read.ensures.basic_after c.read_sheet-read.ensures.places_after c.read_sheet-read.ensures.values_after c.read_sheet-read.ensures.widened_vars_after c.read_sheet-read.ensures.widened_ups_after c.read_sheet-read.ensures.rho_hi_after c.read_sheet-read.ensures.rho_lo_after c.read_sheet-read.ensures.second_after (room-for-all c.before.before.before.before.before.before.before.before.before.before.before.before.before.before.before.before.before.before.before.before.before.before.before.before.before.before.before.before.before.before.before.before.before.before.before.before.before.before.before.before.before.before.before.before.before.before.before.before.before.before.before.before.before.before.before.before.before.before.before)
+verdict_on-requires c = lists_have_room c.args.text.now (room c.args.text.now) c.read_sheet-read.ensures.value c.read_sheet-read.ensures.starts_after c.read_sheet-read.ensures.columns_after c.read_sheet-read.ensures.entries_after c.read_sheet-read.ensures.right_sides_after c.read_sheet-read.ensures.scales_after c.read_sheet-read.ensures.integer_after c.read_sheet-read.ensures.mins_after c.read_sheet-read.ensures.maxs_after c.read_sheet-read.ensures.low_tolerances_after c.read_sheet-read.ensures.high_tolerances_after c.read_sheet-read.ensures.basic_after c.read_sheet-read.ensures.places_after c.read_sheet-read.ensures.values_after c.read_sheet-read.ensures.widened_vars_after c.read_sheet-read.ensures.widened_ups_after c.read_sheet-read.ensures.rho_hi_after c.read_sheet-read.ensures.rho_lo_after c.read_sheet-read.ensures.second_after (room-for-all c.args.text.now)
 
 pub returns : goal.returns
 unfolding of_bits
-returns c = let all = text_full c.args.text.now c.read_sheet-read.ensures.value c.follows_form.ensures (ap not c.if-not-follows_form.false) (lists-verdict c.args.text.now (room c.before.before.before.before.before.before.before.before.before.before.before.before.before.before.before.before.before.before.before.before.before.before.before.before.before.before.before.before.before.before.before.before.before.before.before.before.before.before.before.before.before.before.before.before.before.before.before.before.before.before.before.before.before.before.before.before.before.before.before.before) c.read_sheet-read.ensures.value c.read_sheet-read.ensures.starts_after c.read_sheet-read.ensures.columns_after c.read_sheet-read.ensures.entries_after c.read_sheet-read.ensures.right_sides_after c.read_sheet-read.ensures.scales_after c.read_sheet-read.ensures.integer_after c.read_sheet-read.ensures.mins_after c.read_sheet-read.ensures.maxs_after c.read_sheet-read.ensures.low_tolerances_after c.read_sheet-read.ensures.high_tolerances_after c.read_sheet-read.ensures.basic_after c.read_sheet-read.ensures.places_after c.read_sheet-read.ensures.values_after c.read_sheet-read.ensures.widened_vars_after c.read_sheet-read.ensures.widened_ups_after c.read_sheet-read.ensures.rho_hi_after c.read_sheet-read.ensures.rho_lo_after c.read_sheet-read.ensures.second_after (room-for-all c.before.before.before.before.before.before.before.before.before.before.before.before.before.before.before.before.before.before.before.before.before.before.before.before.before.before.before.before.before.before.before.before.before.before.before.before.before.before.before.before.before.before.before.before.before.before.before.before.before.before.before.before.before.before.before.before.before.before.before.before) refl c.verdict_on.ensures.value c.verdict_on.ensures.no_point) in record { value = all.0; no_point = all.1 }
+returns c = let all = text_full c.args.text.now c.read_sheet-read.ensures.value c.follows_form.ensures c.verdict_on.result (ap not c.if-not-follows_form.false) (lists-verdict c.args.text.now (room c.args.text.now) c.read_sheet-read.ensures.value c.read_sheet-read.ensures.starts_after c.read_sheet-read.ensures.columns_after c.read_sheet-read.ensures.entries_after c.read_sheet-read.ensures.right_sides_after c.read_sheet-read.ensures.scales_after c.read_sheet-read.ensures.integer_after c.read_sheet-read.ensures.mins_after c.read_sheet-read.ensures.maxs_after c.read_sheet-read.ensures.low_tolerances_after c.read_sheet-read.ensures.high_tolerances_after c.read_sheet-read.ensures.basic_after c.read_sheet-read.ensures.places_after c.read_sheet-read.ensures.values_after c.read_sheet-read.ensures.widened_vars_after c.read_sheet-read.ensures.widened_ups_after c.read_sheet-read.ensures.rho_hi_after c.read_sheet-read.ensures.rho_lo_after c.read_sheet-read.ensures.second_after (room-for-all c.args.text.now) refl c.verdict_on.result c.verdict_on.ensures.value c.verdict_on.ensures.no_point) in record { value = all.0; no_point = all.1 }

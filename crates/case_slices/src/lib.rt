@@ -1,0 +1,173 @@
+//! The slices of a sheet that a table of cases fills: room for each, and the front of it that the sheet has.
+
+#![tactic(auto)]
+
+ghost use Rattle.std.specs.Prelude.{◌≡◌, ◌%◌, ◌≤◌, length, take, nat_lt, set, MatchOption};
+ghost use Rattle.case_slices.specs.Slices.{number_of, room};
+
+use tables::double_of;
+
+/// A few more rows, structural variables, variables, widened items and entries than a sheet may have.
+pub const ROWS: usize = 132;
+
+pub const STRUCTURALS: usize = 260;
+
+pub const VARIABLES: usize = 388;
+
+pub const WIDENED: usize = 776;
+
+pub const ENTRIES: usize = 4100;
+
+/// A slice of a sheet.
+#[derive(Clone, Copy)]
+pub enum Slice {
+    Starts,
+    Columns,
+    Entries,
+    RightSides,
+    Scales,
+    Integer,
+    Mins,
+    Maxs,
+    LowTolerances,
+    HighTolerances,
+    Basic,
+    Places,
+    Values,
+    WidenedVars,
+    WidenedUps,
+    RhoHi,
+    RhoLo,
+    Second,
+}
+
+impl Slice {
+    /// The slice that a table has at a number.
+    pub fn from_number(n: usize) -> Option<Slice>
+        ensures { MatchOption result (18 ≤ n) (λ slice. number_of slice ≡ n) }
+    {
+        match n {
+            0 => Some(Slice::Starts),
+            1 => Some(Slice::Columns),
+            2 => Some(Slice::Entries),
+            3 => Some(Slice::RightSides),
+            4 => Some(Slice::Scales),
+            5 => Some(Slice::Integer),
+            6 => Some(Slice::Mins),
+            7 => Some(Slice::Maxs),
+            8 => Some(Slice::LowTolerances),
+            9 => Some(Slice::HighTolerances),
+            10 => Some(Slice::Basic),
+            11 => Some(Slice::Places),
+            12 => Some(Slice::Values),
+            13 => Some(Slice::WidenedVars),
+            14 => Some(Slice::WidenedUps),
+            15 => Some(Slice::RhoHi),
+            16 => Some(Slice::RhoLo),
+            17 => Some(Slice::Second),
+            _ => None,
+        }
+    }
+}
+
+/// Room for each slice.
+#[derive(Drop)]
+pub struct Slices {
+    pub starts: [usize; ROWS],
+    pub columns: [usize; ENTRIES],
+    pub entries: [f64; ENTRIES],
+    pub right_sides: [f64; ROWS],
+    pub scales: [f64; ROWS],
+    pub integer: [u8; STRUCTURALS],
+    pub mins: [f64; VARIABLES],
+    pub maxs: [f64; VARIABLES],
+    pub low_tolerances: [f64; VARIABLES],
+    pub high_tolerances: [f64; VARIABLES],
+    pub basic: [u8; VARIABLES],
+    pub places: [usize; VARIABLES],
+    pub values: [f64; VARIABLES],
+    pub widened_vars: [usize; WIDENED],
+    pub widened_ups: [u8; WIDENED],
+    pub rho_hi: [f64; ROWS],
+    pub rho_lo: [f64; ROWS],
+    pub second: [f64; ROWS],
+}
+
+impl Slices {
+    /// 0 everywhere.
+    pub const ZERO: Slices = Slices {
+        starts: [0; ROWS],
+        columns: [0; ENTRIES],
+        entries: [0.0; ENTRIES],
+        right_sides: [0.0; ROWS],
+        scales: [0.0; ROWS],
+        integer: [0; STRUCTURALS],
+        mins: [0.0; VARIABLES],
+        maxs: [0.0; VARIABLES],
+        low_tolerances: [0.0; VARIABLES],
+        high_tolerances: [0.0; VARIABLES],
+        basic: [0; VARIABLES],
+        places: [0; VARIABLES],
+        values: [0.0; VARIABLES],
+        widened_vars: [0; WIDENED],
+        widened_ups: [0; WIDENED],
+        rho_hi: [0.0; ROWS],
+        rho_lo: [0.0; ROWS],
+        second: [0.0; ROWS],
+    };
+
+    /// Puts a value at a place of a slice, a number, a flag or a double's pattern, and answers whether there is room.
+    pub fn put(&mut self, slice: Slice, place: usize, value: usize) -> bool
+        ensures { result ≡ nat_lt place (room slice) }
+    {
+        let flag = byte(value);
+        let real = double_of(value as u64);
+        match slice {
+            Slice::Starts => put_at(&mut self.starts, place, value),
+            Slice::Columns => put_at(&mut self.columns, place, value),
+            Slice::Entries => put_at(&mut self.entries, place, real),
+            Slice::RightSides => put_at(&mut self.right_sides, place, real),
+            Slice::Scales => put_at(&mut self.scales, place, real),
+            Slice::Integer => put_at(&mut self.integer, place, flag),
+            Slice::Mins => put_at(&mut self.mins, place, real),
+            Slice::Maxs => put_at(&mut self.maxs, place, real),
+            Slice::LowTolerances => put_at(&mut self.low_tolerances, place, real),
+            Slice::HighTolerances => put_at(&mut self.high_tolerances, place, real),
+            Slice::Basic => put_at(&mut self.basic, place, flag),
+            Slice::Places => put_at(&mut self.places, place, value),
+            Slice::Values => put_at(&mut self.values, place, real),
+            Slice::WidenedVars => put_at(&mut self.widened_vars, place, value),
+            Slice::WidenedUps => put_at(&mut self.widened_ups, place, flag),
+            Slice::RhoHi => put_at(&mut self.rho_hi, place, real),
+            Slice::RhoLo => put_at(&mut self.rho_lo, place, real),
+            Slice::Second => put_at(&mut self.second, place, real),
+        }
+    }
+}
+
+/// Puts a value at a place, and answers whether there is such a place.
+fn put_at<T: Copy>(xs: &mut [T], place: usize, value: T) -> bool
+    ensures list { xs.new ≡ set xs.old place value }
+    ensures room { result ≡ nat_lt place (length xs.old) }
+{
+    if place < xs.len() {
+        xs[place] = value;
+        true
+    } else {
+        false
+    }
+}
+
+/// The front of a slice, of a length; all of it where it is no longer.
+pub fn part<T>(xs: &[T], length: usize) -> &[T]
+    ensures { result.now ≡ take length xs.now }
+{
+    &xs[..length.min(xs.len())]
+}
+
+/// The last eight bits.
+pub fn byte(n: usize) -> u8
+    ensures { result ≡ n % 256 }
+{
+    (n % 256) as u8
+}

@@ -1,0 +1,42 @@
+//! Digits 0-9A-F, and the doubles that 64 bits are the pattern of.
+
+#![tactic(auto)]
+
+ghost use Rattle.std.specs.Prelude.{◌≡◌};
+ghost use Rattle.std.specs.Float.{binary64};
+ghost use Rattle.std.specs.Float.Ieee.{of_bits, to_bits};
+ghost use Rattle.hex_digits.specs.Digit.{digit_of};
+
+/// The value of a digit 0-9A-F. No other byte has one.
+pub fn digit_of(c: u8) -> Option<u8>
+    ensures { result ≡ digit_of c }
+{
+    match c {
+        b'0'..=b'9' => Some(c - b'0'),
+        b'A'..=b'F' => Some(c - b'A' + 10),
+        _ => None,
+    }
+}
+
+/// The double with a pattern. `from_bits` is not defined at a NaN's, so a NaN is made by a division.
+pub fn double_of(bits: u64) -> f64
+    ensures { result ≡ of_bits binary64 bits }
+{
+    if 0x7FF0_0000_0000_0000 < bits % 0x8000_0000_0000_0000 {
+        let zero: f64 = 0.0;
+        zero / zero
+    } else {
+        f64::from_bits(bits)
+    }
+}
+
+/// A double's pattern, the same for every NaN.
+pub fn bits_of(v: f64) -> u64
+    ensures { result ≡ to_bits binary64 v }
+{
+    if v != v {
+        0x7FF8_0000_0000_0000
+    } else {
+        f64::to_bits(v)
+    }
+}
