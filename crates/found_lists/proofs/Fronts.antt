@@ -1,16 +1,16 @@
 -- What stands at the fronts of the two lists is what the search has found. Assumes nothing.
 use native.Mathlib.Omega.{arith}
 use mathlib.Core.Path.{◌≡◌, ap, ◌∙◌}
-use mathlib.Core.Bool.{Bool, true, false, cond}
-use mathlib.Core.List.{List, [], ◌∷◌}
+use mathlib.Core.Bool.{Bool}
+use mathlib.Core.List.{List}
 use Prim.Native.Nat.{ℕ, ◌+◌, ◌*◌, ◌/◌, ◌≤◌}
 use lib.ListN.{length, take, drop, length-map}
 use lib.Seq.{sets, sets-eq, take-append_seam}
 use Rattle.questions.specs.Limits.{most_rows, most_structurals}
-use Rattle.widened_records.specs.declared.Found.{Found}
+use Rattle.std.specs.Prelude.{Option, None, Some}
 use Rattle.widened_records.specs.Listed.{found_variables, found_ups}
 use Rattle.widened_records.proofs.Listed.{listed_sided}
-use Rattle.found_lists.specs.Items.{variables_at, marked}
+use Rattle.found_lists.specs.Items.{marked}
 use Rattle.found_lists.proofs.Listing.{marked_few}
 
 -- a list that was stored from the front on, read back
@@ -20,14 +20,14 @@ front l xs e room =
     ∙ ap (take (length xs)) (sets-eq xs l 0 (omega arith))
     ∙ take-append_seam xs (drop (0 + length xs) l)
 
-module _ (found : Found) (count : ℕ) where
+module _ (found : Option (List Bool)) (count : ℕ) where
   pub found_few : count ≤ most_structurals + most_rows → length (found_variables count found) ≤ 2 * (most_structurals + most_rows)
   unfolding found_variables
-  found_few small = go found.amiss
+  found_few small = go found
     where
-      go : (amiss : Bool) → length (cond amiss (count ∷ []) (variables_at (marked count found))) ≤ 2 * (most_structurals + most_rows)
-      go true = omega arith
-      go false = omega (arith, length-map (marked count found) (λ (m : ℕ). m / 2), marked_few found.marks (2 * count))
+      go : (f : Option (List Bool)) → length (found_variables count f) ≤ 2 * (most_structurals + most_rows)
+      go None = omega arith
+      go (Some marks) = omega (arith, length-map (marked count marks) (λ (m : ℕ). m / 2), marked_few marks (2 * count))
 
   module _ {items : ℕ} (counted : items ≡ length (found_variables count found)) (l : List ℕ) {after : List ℕ} (room : items ≤ length l) where
     pub variables_back : after ≡ sets l 0 (found_variables count found) → take items after ≡ found_variables count found

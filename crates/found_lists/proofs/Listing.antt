@@ -7,7 +7,7 @@ use native.Mathlib.Omega.{arith}
 use native.Mathlib.Numerals.{add-one}
 use lib.ListN.{length, get_or, set, length-append, length-map}
 use lib.Seq.{sets, length-sets}
-use Rattle.widened_records.specs.declared.Found.{Found}
+use Rattle.std.specs.Prelude.{Option, None, Some}
 use Rattle.widened_records.specs.Listed.{marked_below, found_variables, found_ups}
 use Rattle.repeats.proofs.Stores.{sets_append}
 use Rattle.found_lists.specs.Items.{place_if, variables_at, sides_at, marked}
@@ -82,17 +82,17 @@ module _ {marks : List Bool} {vars₀ ups₀ : List ℕ} {most : ℕ} where
     done h = let e : m ≡ most = omega (arith, l.inside) in rw (sym e) (l.counted, (l.variables, l.sides))
 
 -- ---- the items found
-module _ (found : Found) (count : ℕ) (vars ups : List ℕ) where
+module _ (count : ℕ) (vars ups : List ℕ) (found : Option (List Bool)) where
   abbrev Listed : ℕ → List ℕ → List ℕ → Type 0
   Listed items vars' ups' =
       (items ≡ length (found_variables count found))
       × ((vars' ≡ sets vars 0 (found_variables count found)) × (ups' ≡ sets ups 0 (found_ups count found)))
 
-  pub amiss : found.amiss ≡ true → Listed 1 (set vars 0 count) (set ups 0 0)
+  pub none : found ≡ None → Listed 1 (set vars 0 count) (set ups 0 0)
   unfolding found_variables found_ups
-  amiss e = rw e (refl, (refl, refl))
+  none e = rw e (refl, (refl, refl))
 
-  pub fine : {items : ℕ} {vars' ups' : List ℕ} → found.amiss ≡ false → items ≡ length (marked count found)
-      → vars' ≡ sets vars 0 (variables_at (marked count found)) → ups' ≡ sets ups 0 (sides_at (marked count found)) → Listed items vars' ups'
+  pub some : (marks : List Bool) {items : ℕ} {vars' ups' : List ℕ} → found ≡ Some marks → items ≡ length (marked count marks)
+      → vars' ≡ sets vars 0 (variables_at (marked count marks)) → ups' ≡ sets ups 0 (sides_at (marked count marks)) → Listed items vars' ups'
   unfolding found_variables found_ups
-  fine e i v u = rw e (i ∙ sym (length-map (marked count found) (λ (m : ℕ). m / 2)), (v, u))
+  some marks e i v u = rw e (i ∙ sym (length-map (marked count marks) (λ (m : ℕ). m / 2)), (v, u))

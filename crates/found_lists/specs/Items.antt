@@ -1,6 +1,5 @@
 -- A mark's item, for the contracts of functions that the crate keeps to itself. Assumes nothing.
 use Rattle.std.specs.Prelude.{Bool, cond, List, [], ◌∷◌, map, ℕ, ◌*◌, ◌/◌, ◌%◌}
-use Rattle.widened_records.specs.declared.Found.{Found}
 use Rattle.widened_records.specs.Listed.{marked_below}
 
 -- the place of a mark where it is set
@@ -16,5 +15,5 @@ abbrev pub sides_at : List ℕ → List ℕ
 sides_at ms = map (λ (m : ℕ). m % 2) ms
 
 -- the places of the marks set, of `count` variables
-abbrev pub marked : ℕ → Found → List ℕ
-marked count f = marked_below f.marks (2 * count)
+abbrev pub marked : ℕ → List Bool → List ℕ
+marked count marks = marked_below marks (2 * count)

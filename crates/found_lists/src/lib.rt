@@ -9,7 +9,7 @@ ghost use Rattle.questions.specs.Limits.{most_rows, most_structurals};
 ghost use Rattle.widened_records.specs.Listed.{found_ups, found_variables};
 ghost use Rattle.found_lists.specs.Items.{marked, place_if, sides_at, variables_at};
 
-use widened_records::Found;
+use widened_records::MARKS;
 
 /// Writes the item of the mark `m`, where it is set, and answers the next place.
 fn put_item(set: bool, m: usize, place: usize, vars: &mut [usize], ups: &mut [u8]) -> usize
@@ -28,14 +28,14 @@ fn put_item(set: bool, m: usize, place: usize, vars: &mut [usize], ups: &mut [u8
 }
 
 /// Writes the items of the marks of `count` variables.
-fn put_items(found: Found, count: usize, vars: &mut [usize], ups: &mut [u8]) -> usize
+fn put_items(marks: &[bool; MARKS], count: usize, vars: &mut [usize], ups: &mut [u8]) -> usize
     requires { (count ≤ most_structurals + most_rows) × (2 * (most_structurals + most_rows) ≤ length vars.old) × (2 * (most_structurals + most_rows) ≤ length ups.old) }
-    ensures value { result ≡ length (marked count found) }
-    ensures vars_after { vars.new ≡ sets vars.old 0 (variables_at (marked count found)) }
-    ensures ups_after { ups.new ≡ sets ups.old 0 (sides_at (marked count found)) }
+    ensures value { result ≡ length (marked count marks.now) }
+    ensures vars_after { vars.new ≡ sets vars.old 0 (variables_at (marked count marks.now)) }
+    ensures ups_after { ups.new ≡ sets ups.old 0 (sides_at (marked count marks.now)) }
 {
     let mut items = 0;
-    for (m, set) in found.marks[..2 * count].iter().enumerate() {
+    for (m, set) in marks[..2 * count].iter().enumerate() {
         items = put_item(*set, m, items, vars, ups);
     }
     items
@@ -43,17 +43,23 @@ fn put_items(found: Found, count: usize, vars: &mut [usize], ups: &mut [u8]) -> 
 
 /// Writes the items found to the fronts of `vars` and `ups`, and answers how many they are.
 // Kept: it fills two lent lists, since there is no heap and the reckoning reads the widened list as two.
-pub fn listed(found: Found, count: usize, vars: &mut [usize], ups: &mut [u8]) -> usize
+pub fn listed(
+    found: &Option<[bool; MARKS]>,
+    count: usize,
+    vars: &mut [usize],
+    ups: &mut [u8],
+) -> usize
     requires { (count ≤ most_structurals + most_rows) × (2 * (most_structurals + most_rows) ≤ length vars.old) × (2 * (most_structurals + most_rows) ≤ length ups.old) }
-    ensures value { result ≡ length (found_variables count found) }
-    ensures vars_after { vars.new ≡ sets vars.old 0 (found_variables count found) }
-    ensures ups_after { ups.new ≡ sets ups.old 0 (found_ups count found) }
+    ensures value { result ≡ length (found_variables count found.now) }
+    ensures vars_after { vars.new ≡ sets vars.old 0 (found_variables count found.now) }
+    ensures ups_after { ups.new ≡ sets ups.old 0 (found_ups count found.now) }
 {
-    if found.amiss {
-        vars[0] = count;
-        ups[0] = 0;
-        1
-    } else {
-        put_items(found, count, vars, ups)
+    match found {
+        Some(marks) => put_items(marks, count, vars, ups),
+        None => {
+            vars[0] = count;
+            ups[0] = 0;
+            1
+        }
     }
 }

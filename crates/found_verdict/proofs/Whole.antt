@@ -5,7 +5,7 @@ use mathlib.Core.List.{List}
 use Prim.Native.Nat.{ℕ, ◌+◌, ◌*◌, ◌≤◌}
 use lib.ListN.{length, take, replicate, length-take, length-replicate}
 use lib.Seq.{sets, length-sets}
-use Rattle.std.specs.Prelude.{Result}
+use Rattle.std.specs.Prelude.{Bool, Option, Result}
 use Rattle.refusal_numbers.specs.declared.Refusal.{Refusal}
 use Rattle.refusal_numbers.specs.Numbers.{numbered}
 use Rattle.questions.specs.Limits.{most_rows, most_structurals}
@@ -14,7 +14,6 @@ use Rattle.kept.specs.Kept.{Lent, after}
 use Rattle.verdict.specs.declared.Verdict.{Verdict}
 use Rattle.verdict.specs.Verdict.{verdict}
 use Rattle.verdict.proofs.Whole.{Declined}
-use Rattle.widened_records.specs.declared.Found.{Found}
 use Rattle.widened_records.specs.Records.{count_of}
 use Rattle.widened_records.specs.Listed.{found_variables, found_ups}
 use Rattle.widened_records.proofs.Counts.{count_few}
@@ -31,7 +30,7 @@ abbrev zeros : List ℕ
 zeros = replicate (2 * (most_structurals + most_rows)) 0
 
 -- what `listed` gave
-abbrev Listed : Found → ℕ → ℕ → List ℕ → List ℕ → Type 0
+abbrev Listed : Option (List Bool) → ℕ → ℕ → List ℕ → List ℕ → Type 0
 Listed found count items vars ups =
     (items ≡ length (found_variables count found))
     × ((vars ≡ sets zeros 0 (found_variables count found)) × (ups ≡ sets zeros 0 (found_ups count found)))
@@ -42,7 +41,7 @@ counted_few s e = rw e (count_few s.rows s.structurals)
 pub front_long : {n : ℕ} (xs : List ℕ) → n ≤ length xs → n ≡ length (take n xs)
 front_long {n} xs room = omega (arith, length-take n xs)
 
-module _ (found : Found) (s : Sheet) {count : ℕ} (counted : count ≡ count_of s.rows s.structurals) {items : ℕ} {vars ups : List ℕ}
+module _ (found : Option (List Bool)) (s : Sheet) {count : ℕ} (counted : count ≡ count_of s.rows s.structurals) {items : ℕ} {vars ups : List ℕ}
     (listed : Listed found count items vars ups) where
   few : items ≤ length zeros
   few = omega (arith, listed.0, found_few found count (counted_few s counted), length-replicate {A = ℕ} (2 * (most_structurals + most_rows)) 0)

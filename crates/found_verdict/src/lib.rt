@@ -17,18 +17,18 @@ use found_lists::listed;
 use refusal_numbers::Refusal;
 use sheet::Sheet;
 use verdict::{Verdict, verdict_of};
-use widened_records::{Found, MARKS, variable_count};
+use widened_records::{MARKS, variable_count};
 
 /// The verdict on a sheet with the widened list found, in place of the sheet's own.
 pub fn verdict_found(
-    found: Found,
+    found: &Option<[bool; MARKS]>,
     s: &Sheet,
     l: &mut Lists,
     errors: &mut [f64],
 ) -> Result<Verdict, Refusal>
-    ensures value { numbered result ≡ verdict (with_found found (sheet_lent s.now l.old errors.old)) }
-    ensures lent_after { lent (lent_lists l.new) errors.new ≡ after (with_found found (sheet_lent s.now l.old errors.old)) (lent (lent_lists l.old) errors.old) }
-    ensures no_point { IfOk result (λ v. T v.declined → NoPoint (rows_of (with_found found (sheet_lent s.now l.old errors.old))) (ranges_of (with_found found (sheet_lent s.now l.old errors.old)))) }
+    ensures value { numbered result ≡ verdict (with_found found.now (sheet_lent s.now l.old errors.old)) }
+    ensures lent_after { lent (lent_lists l.new) errors.new ≡ after (with_found found.now (sheet_lent s.now l.old errors.old)) (lent (lent_lists l.old) errors.old) }
+    ensures no_point { IfOk result (λ v. T v.declined → NoPoint (rows_of (with_found found.now (sheet_lent s.now l.old errors.old))) (ranges_of (with_found found.now (sheet_lent s.now l.old errors.old)))) }
     ensures same_slices { SameSlices l.old l.new }
 {
     let mut vars = [0; MARKS];

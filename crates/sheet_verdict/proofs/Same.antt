@@ -5,7 +5,7 @@ use mathlib.Core.List.{List}
 use Prim.Native.Nat.{ℕ, ◌+◌, ◌≤◌}
 use lib.ListN.{take}
 use borrow.Author.Tests.{le-leb}
-use Rattle.std.specs.Prelude.{Result}
+use Rattle.std.specs.Prelude.{Bool, Option, Result}
 use Rattle.refusal_numbers.specs.declared.Refusal.{Refusal}
 use Rattle.refusal_numbers.specs.Numbers.{numbered}
 use Rattle.questions.specs.Limits.{most_rows, most_structurals}
@@ -17,7 +17,6 @@ use Rattle.kept.specs.Kept.{Lent, after}
 use Rattle.verdict.specs.declared.Verdict.{Verdict}
 use Rattle.verdict.specs.Verdict.{verdict}
 use Rattle.verdict.proofs.Whole.{Declined}
-use Rattle.widened_records.specs.declared.Found.{Found}
 use Rattle.widened_records.specs.declared.Widened.{Widened}
 use Rattle.widened_records.specs.Records.{count_of, ups_of, variables_of}
 use Rattle.widened_records.specs.Found.{found_in}
@@ -43,7 +42,7 @@ module _ (s : Sheet) (list : List Widened) where
   abbrev front : List Widened
   front = take most_widened list
 
-  abbrev found : Found
+  abbrev found : Option (List Bool)
   found = found_in count front
 
   few : count ≤ most_structurals + most_rows
@@ -65,13 +64,13 @@ module _ (s : Sheet) (list : List Widened) where
             ∙ listed_held count front few (front_fine count list few ∙ passes) v up;
       }
 
-  pub entry_says : (before : Lent) {f : Found} {now : Lent} (r : Result Verdict Refusal) → f ≡ found
+  pub entry_says : (before : Lent) {f : Option (List Bool)} {now : Lent} (r : Result Verdict Refusal) → f ≡ found
       → (numbered r ≡ verdict (with_found f s)) × ((now ≡ after (with_found f s) before) × Declined (with_found f s) r)
       → (numbered r ≡ verdict (with_widened (variables_of list) (ups_of list) s))
       × ((now ≡ after (with_widened (variables_of list) (ups_of list) s) before) × Declined (with_widened (variables_of list) (ups_of list) s) r)
   entry_says before {f} {now} r is says =
       let facts : (numbered r ≡ verdict (with_found found s)) × ((now ≡ after (with_found found s) before) × Declined (with_found found s) r) =
-      subst (λ (x : Found). (numbered r ≡ verdict (with_found x s)) × ((now ≡ after (with_found x s) before) × Declined (with_found x s) r)) is says in (
+      subst (λ (x : Option (List Bool)). (numbered r ≡ verdict (with_found x s)) × ((now ≡ after (with_found x s) before) × Declined (with_found x s) r)) is says in (
         facts.0 ∙ same_verdict s _ _ _ _ found_interchangeable,
         (
           facts.1.0 ∙ same_after s _ _ _ _ found_interchangeable before,

@@ -33,5 +33,5 @@ pub fn sheet_verdict(
     ensures same_slices { SameSlices l.old l.new }
 {
     let found = search(widened, s.rows, s.structurals);
-    verdict_found(found, s, l, errors)
+    verdict_found(&found, s, l, errors)
 }

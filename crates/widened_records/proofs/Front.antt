@@ -1,24 +1,24 @@
 -- A list that is longer than any without an item amiss is known by its front. Assumes nothing.
 use native.Mathlib.Omega.{arith}
-use mathlib.Core.Path.{◌≡◌, ap, sym, ◌∙◌}
-use mathlib.Core.Bool.{Bool, true, false, not}
+use mathlib.Core.Path.{◌≡◌, ap, sym, subst, ◌∙◌}
+use mathlib.Core.Bool.{Bool, true}
 use mathlib.Core.List.{List}
-use Prim.Native.Nat.{ℕ, ◌+◌, ◌≤◌, ◌<◌}
-use borrow.Author.Tests.{not-false}
-use lib.ListN.{get_or, take, length-map}
+use Prim.Native.Nat.{ℕ, ◌+◌, ◌≤◌}
+use Rattle.std.specs.Prelude.{Option, Some, is_some, min}
+use Rattle.std.proofs.lemmas.List.{take_min}
+use lib.ListN.{length, take, length-map}
 use lib.Seq.{take_all}
 use Rattle.questions.specs.Limits.{most_rows, most_structurals}
-use Rattle.place_questions.specs.Tallies.{mark_of}
 use Rattle.place_questions.specs.Questions.{widened_fine}
-use Rattle.variable_kinds.specs.Variables.{is_widened}
 use Rattle.many_widened.specs.Fewest.{most_widened}
 use Rattle.many_widened.proofs.ManyWidened.{fine_few, front_decides}
 use Rattle.repeats.proofs.Fronts.{take_map}
 use Rattle.widened_records.specs.declared.Widened.{Widened}
-use Rattle.widened_records.specs.Records.{ups_of, variables_of}
+use Rattle.widened_records.specs.Records.{count_of, ups_of, variables_of}
 use Rattle.widened_records.specs.Found.{found_in}
+use Rattle.widened_records.proofs.Counts.{count_few}
 use Rattle.widened_records.proofs.Listed.{records_sided}
-use Rattle.widened_records.proofs.Marked.{amiss_says, marks_say}
+use Rattle.widened_records.proofs.Marked.{Marks, marks_say, some_says}
 
 module _ (count : ℕ) (list : List Widened) (few : count ≤ most_structurals + most_rows) where
   abbrev Fine : List Widened → Bool
@@ -36,12 +36,26 @@ module _ (count : ℕ) (list : List Widened) (few : count ≤ most_structurals +
       take_all most_widened list
       (omega (arith, few, fine_few (variables_of list) (ups_of list) count fine, length-map list (λ (w : Widened). w.variable)))
 
-  pub front_amiss : (found_in count (take most_widened list)).amiss ≡ not (Fine list)
-  front_amiss = amiss_says count (take most_widened list) few ∙ ap not front_fine
+  -- the front has marks where the list is fine
+  pub front_some : is_some (found_in count (take most_widened list)) ≡ Fine list
+  front_some = some_says count (take most_widened list) few ∙ front_fine
 
-  pub front_marks : (found_in count (take most_widened list)).amiss ≡ false → (v : ℕ) (up : Bool) → v < count
-      → get_or (found_in count (take most_widened list)).marks (mark_of v up) false ≡ is_widened (variables_of list) (ups_of list) v up
-  front_marks none v up below =
-      let fine : Fine list ≡ true = not-false (Fine list) (sym front_amiss ∙ none) in
-      marks_say count (take most_widened list) few v up below
-      ∙ ap (λ (items : List Widened). is_widened (variables_of items) (ups_of items) v up) (front_whole fine)
+  pub front_marks : {marks : List Bool} → found_in count (take most_widened list) ≡ Some marks → Marks count list few marks
+  front_marks {marks} e =
+      let fine : Fine list ≡ true = sym front_some ∙ ap is_some e in
+      subst (λ (items : List Widened). Marks count items few marks) (front_whole fine) (marks_say count (take most_widened list) few e)
+
+-- what a search gives that stops at a front
+module _ (list : List Widened) (rows structurals : ℕ) {count n : ℕ} (counted : count ≡ count_of rows structurals)
+    (cut : n ≡ min most_widened (length list)) {found : Option (List Bool)} (e : found ≡ found_in count (take n list)) where
+  abbrev few : count_of rows structurals ≤ most_structurals + most_rows
+  few = count_few rows structurals
+
+  pub front_value : found ≡ found_in (count_of rows structurals) (take most_widened list)
+  front_value = e ∙ rw (cut, counted) (ap (found_in (count_of rows structurals)) (take_min most_widened list))
+
+  pub front_some_value : is_some found ≡ widened_fine (count_of rows structurals) (variables_of list) (ups_of list)
+  front_some_value = ap is_some front_value ∙ front_some (count_of rows structurals) list few
+
+  pub front_marks_value : {marks : List Bool} → Some marks ≡ found → Marks (count_of rows structurals) list few marks
+  front_marks_value {marks} is = front_marks (count_of rows structurals) list few (sym (is ∙ front_value))

@@ -3,12 +3,13 @@ use native.Mathlib.Omega.{arith}
 use native.Mathlib.Nat.{div-add-mod, mod-lt}
 use mathlib.Core.Path.{◌≡◌, refl, ap, sym, ◌∙◌}
 use mathlib.Core.Logic.{inl, inr}
-use mathlib.Core.Bool.{Bool, true, false, not, cond, ◌&&◌, ◌||◌, beq, and-false, or-true, or-false}
+use mathlib.Core.Bool.{Bool, true, false, ◌&&◌, ◌||◌, beq, and-false, or-true, or-false, true≢false}
 use mathlib.Core.List.{List, [], ◌∷◌, ◌++◌, map, map-append, append-nil}
 use Prim.Native.Nat.{ℕ, zero, suc, ◌+◌, ◌*◌, ◌/◌, ◌%◌, ◌<◌, ◌≤◌}
 use borrow.Author.Tests.{eqb-true, eqb-false, ne_eqb, ltb-true, lt-ltb, le-ltb}
 use lib.Dec.{eqb, ltb}
 use lib.ListN.{length, get_or, length-map}
+use Rattle.std.specs.Prelude.{Option, None, Some, is_some}
 use Rattle.exact.proofs.Naturals.{le_or_lt}
 use Rattle.questions.specs.Limits.{most_rows, most_structurals}
 use Rattle.questions.specs.Flags.{is_set}
@@ -18,12 +19,11 @@ use Rattle.place_questions.specs.Places.{widened_among}
 use Rattle.place_questions.specs.Questions.{item_fine_at, widened_fine}
 use Rattle.place_questions.specs.Tallies.{mark_of}
 use Rattle.variable_kinds.specs.Variables.{is_widened}
-use Rattle.widened_records.specs.declared.Found.{Found}
 use Rattle.widened_records.specs.declared.Widened.{Widened}
 use Rattle.widened_records.specs.Records.{variables_of, ups_of}
 use Rattle.widened_records.specs.Found.{found_in}
 use Rattle.widened_records.specs.Listed.{marked_below, found_variables, found_ups}
-use Rattle.widened_records.proofs.Marked.{same_mark, mark_below, more_held, more_fine, marks_say, amiss_says}
+use Rattle.widened_records.proofs.Marked.{same_mark, mark_below, more_held, more_fine, marks_say, some_says}
 
 pub records_sided : (list : List Widened) → length (ups_of list) ≡ length (variables_of list)
 records_sided list = length-map list (λ (w : Widened). w.up) ∙ sym (length-map list (λ (w : Widened). w.variable))
@@ -137,13 +137,10 @@ module _ (marks : List Bool) where
           ∙ before
 
 -- ---- the list of a search
-pub listed_sided : (count : ℕ) (f : Found) → length (found_ups count f) ≡ length (found_variables count f)
+pub listed_sided : (count : ℕ) (found : Option (List Bool)) → length (found_ups count found) ≡ length (found_variables count found)
 unfolding found_variables found_ups
-listed_sided count f = go f.amiss
-  where
-    go : (t : Bool) → length (cond t (0 ∷ []) (ups f.marks (2 * count))) ≡ length (cond t (count ∷ []) (vars f.marks (2 * count)))
-    go true = refl
-    go false = sided f.marks (2 * count)
+listed_sided count None = refl
+listed_sided count (Some marks) = sided marks (2 * count)
 
 -- one item that names no variable is refused
 lone_refused : (count : ℕ) → widened_fine count (count ∷ []) (0 ∷ []) ≡ false
@@ -161,37 +158,38 @@ none_beyond count xs ys v up beyond (suc n) fine =
     let names : get_or xs n 0 < count = ltb-true (get_or xs n 0) count (and_left (ltb (get_or xs n 0) count) _ last) in
     rw (none_beyond count xs ys v up beyond n before, ne_eqb (get_or xs n 0) v (λ e. omega (arith, e))) refl
 
-module _ (count : ℕ) (f : Found) where
-  says_fine : (fine : Bool) → f.amiss ≡ not fine → fine ≡ widened_fine count (found_variables count f) (found_ups count f)
-  unfolding found_variables found_ups
-  says_fine true e = rw e (sym (marked_fine f.marks count (2 * count) (omega arith)))
-  says_fine false e = rw e (sym (lone_refused count))
+-- it passes where there are marks
+some_fine : (count : ℕ) (found : Option (List Bool)) → is_some found ≡ widened_fine count (found_variables count found) (found_ups count found)
+unfolding found_variables found_ups
+some_fine count None = sym (lone_refused count)
+some_fine count (Some marks) = sym (marked_fine marks count (2 * count) (omega arith))
 
-  else_held : f.amiss ≡ false → (v : ℕ) (up : Bool)
-      → is_widened (found_variables count f) (found_ups count f) v up ≡ held f.marks (2 * count) (mark_of v up)
-  unfolding found_variables found_ups
-  else_held e v up = rw e (marked_held f.marks (2 * count) v up)
+-- what it holds is what the marks say
+marks_held : (count : ℕ) (marks : List Bool) (v : ℕ) (up : Bool)
+    → is_widened (found_variables count (Some marks)) (found_ups count (Some marks)) v up ≡ held marks (2 * count) (mark_of v up)
+unfolding found_variables found_ups
+marks_held count marks v up = marked_held marks (2 * count) v up
 
-pub listed_fine : (count : ℕ) (list : List Widened) → count ≤ most_structurals + most_rows
-    → widened_fine count (variables_of list) (ups_of list)
-    ≡ widened_fine count (found_variables count (found_in count list)) (found_ups count (found_in count list))
-listed_fine count list small =
-    says_fine count (found_in count list) (widened_fine count (variables_of list) (ups_of list)) (amiss_says count list small)
+module _ (count : ℕ) (list : List Widened) (small : count ≤ most_structurals + most_rows) where
+  pub listed_fine : widened_fine count (variables_of list) (ups_of list)
+      ≡ widened_fine count (found_variables count (found_in count list)) (found_ups count (found_in count list))
+  listed_fine = sym (some_says count list small) ∙ some_fine count (found_in count list)
 
-pub listed_held : (count : ℕ) (list : List Widened) → count ≤ most_structurals + most_rows
-    → widened_fine count (variables_of list) (ups_of list) ≡ true → (v : ℕ) (up : Bool)
-    → is_widened (variables_of list) (ups_of list) v up
-    ≡ is_widened (found_variables count (found_in count list)) (found_ups count (found_in count list)) v up
-unfolding widened_fine
-listed_held count list small fine v up =
-    elim (le_or_lt count v) [
-      | inl beyond ↦
-          none_beyond count (variables_of list) (ups_of list) v up beyond (length (variables_of list)) fine
-          ∙ sym (listed ∙ rw (le-ltb (mark_of v up) (2 * count) (mark_beyond count v up beyond)) refl)
-      | inr names ↦
-          sym (listed ∙ rw (lt-ltb (mark_of v up) (2 * count) (mark_below count v up names)) (marks_say count list small v up names))
-    ]
-  where
-    listed : is_widened (found_variables count (found_in count list)) (found_ups count (found_in count list)) v up
-        ≡ held (found_in count list).marks (2 * count) (mark_of v up)
-    listed = else_held count (found_in count list) (amiss_says count list small ∙ ap not fine) v up
+  pub listed_held : widened_fine count (variables_of list) (ups_of list) ≡ true → (v : ℕ) (up : Bool)
+      → is_widened (variables_of list) (ups_of list) v up
+      ≡ is_widened (found_variables count (found_in count list)) (found_ups count (found_in count list)) v up
+  unfolding widened_fine
+  listed_held fine v up = go (found_in count list) refl
+    where
+      go : (found : Option (List Bool)) → found_in count list ≡ found
+          → is_widened (variables_of list) (ups_of list) v up ≡ is_widened (found_variables count found) (found_ups count found) v up
+      go None e = absurd (true≢false (sym fine ∙ sym (some_says count list small) ∙ ap is_some e))
+      go (Some marks) e =
+          elim (le_or_lt count v) [
+            | inl beyond ↦
+                none_beyond count (variables_of list) (ups_of list) v up beyond (length (variables_of list)) fine
+                ∙ sym (marks_held count marks v up ∙ rw (le-ltb (mark_of v up) (2 * count) (mark_beyond count v up beyond)) refl)
+            | inr names ↦
+                sym (marks_held count marks v up
+                ∙ rw (lt-ltb (mark_of v up) (2 * count) (mark_below count v up names)) (marks_say count list small e v up names))
+          ]

@@ -1,27 +1,27 @@
--- What the search of the records finds: a mark says whether its variable is widened on its side, and something is amiss where the eleventh
+-- What the search of the records finds: a mark says whether its variable is widened on its side, and there are none where the eleventh
 -- question refuses the list. Assumes nothing.
 use native.Mathlib.Omega.{arith}
 use native.Mathlib.Numerals.{add-one}
-use mathlib.Core.Path.{◌≡◌, refl, sym, ◌∙◌}
+use mathlib.Core.Path.{◌≡◌, refl, sym, subst, ◌∙◌}
 use mathlib.Core.Bool.{Bool, true, false, not, ◌&&◌, ◌||◌, beq, and-false, or-true, or-false}
 use mathlib.Core.List.{List, [], ◌∷◌, ◌++◌, append-nil}
 use Prim.Native.Nat.{ℕ, zero, suc, ◌+◌, ◌*◌, ◌<◌, ◌≤◌}
-use borrow.Author.Tests.{eqb-true, eqb-false, eq-eqb, ne_eqb, ltb-true, ltb-false}
+use borrow.Author.Tests.{eqb-true, eqb-false, eq-eqb, ne_eqb, ltb-true}
 use lib.Dec.{eqb, ltb}
 use lib.ListN.{length, get_or, set, length-append, length-set, length-replicate, get_or-replicate, get_or-append}
 use lib.Seq.{get_or-set_same, get_or-set_other, get_or_at, append_snoc}
+use Rattle.std.specs.Prelude.{Option, None, Some, is_some}
 use Rattle.questions.specs.Limits.{most_rows, most_structurals}
 use Rattle.questions.specs.Flags.{is_set}
 use Rattle.questions.specs.Places.{all_below}
-use Rattle.questions.proofs.All.{all_same}
+use Rattle.questions.proofs.All.{all_same, and_left}
 use Rattle.place_questions.specs.Places.{widened_among}
 use Rattle.place_questions.specs.Questions.{item_fine_at, widened_fine}
 use Rattle.place_questions.specs.Tallies.{mark_of}
 use Rattle.variable_kinds.specs.Variables.{is_widened}
-use Rattle.widened_records.specs.declared.Found.{Found}
 use Rattle.widened_records.specs.declared.Widened.{Widened}
 use Rattle.widened_records.specs.Records.{variables_of, ups_of}
-use Rattle.widened_records.specs.Found.{nothing_found, mark_for, noted_in, found_from, found_in}
+use Rattle.widened_records.specs.Found.{nothing_found, mark_for, is_new, noted_in, found_from, found_in}
 
 -- ---- two marks are one where the variables and the sides are
 same_side : (v w b : ℕ) → eqb (2 * v + b) (2 * w + b) ≡ (eqb v w && true)
@@ -101,97 +101,83 @@ module _ (xs ys : List ℕ) (x y : ℕ) (same : length ys ≡ length xs) where
           )
           refl
 
--- ---- the marks stay as many
-noted_long : (count : ℕ) (f : Found) (w : Widened) → length (noted_in count f w).marks ≡ length f.marks
-unfolding noted_in
-noted_long count f w = go (ltb w.variable count) refl
-  where
-    go : (t : Bool) → ltb w.variable count ≡ t → length (noted_in count f w).marks ≡ length f.marks
-    go true e = rw e (length-set f.marks (mark_for w) true)
-    go false e = rw e refl
-
-from_long : (count : ℕ) (f : Found) (list : List Widened) → length (found_from count f list).marks ≡ length f.marks
-unfolding found_from
-from_long count f [] = refl
-from_long count f (w ∷ ws) = from_long count (noted_in count f w) ws ∙ noted_long count f w
-
-pub marks_long : (count : ℕ) (list : List Widened) → length (found_in count list).marks ≡ 2 * (most_structurals + most_rows)
-unfolding found_in
-marks_long count list = from_long count nothing_found list ∙ length-replicate (2 * (most_structurals + most_rows)) false
-
 -- ---- what the search has found of the items that it has passed
-record Says (count : ℕ) (xs ys : List ℕ) (f : Found) : Type 0 where
+record Says (count : ℕ) (xs ys : List ℕ) (marks : List Bool) : Type 0 where
   sided : length ys ≡ length xs
-  long : length f.marks ≡ 2 * (most_structurals + most_rows)
-  each : (v : ℕ) (up : Bool) → v < count → get_or f.marks (mark_of v up) false ≡ is_widened xs ys v up
-  refused : f.amiss ≡ not (widened_fine count xs ys)
+  long : length marks ≡ 2 * (most_structurals + most_rows)
+  each : (v : ℕ) (up : Bool) → v < count → get_or marks (mark_of v up) false ≡ is_widened xs ys v up
+  passes : widened_fine count xs ys ≡ true
 
-either : (a b : Bool) → (not a || b) ≡ not (a && not b)
-either true true = refl
-either true false = refl
-either false b = refl
+-- the marks, where the eleventh question passes the items, and else none
+Outcome : ℕ → List ℕ → List ℕ → Option (List Bool) → Type 0
+Outcome count xs ys None = widened_fine count xs ys ≡ false
+Outcome count xs ys (Some marks) = Says count xs ys marks
 
 module _ (count : ℕ) (few : count ≤ most_structurals + most_rows) where
+  -- a list that is refused stays so
+  stays_refused : (xs ys : List ℕ) → length ys ≡ length xs → widened_fine count xs ys ≡ false → (list : List Widened)
+      → widened_fine count (xs ++ variables_of list) (ys ++ ups_of list) ≡ false
+  stays_refused xs ys sided refused [] = rw (append-nil xs, append-nil ys) refused
+  stays_refused xs ys sided refused (w ∷ ws) =
+      rw
+      (← (append_snoc xs w.variable (variables_of ws)), ← (append_snoc ys w.up (ups_of ws)))
+      (stays_refused (xs ++ w.variable ∷ []) (ys ++ w.up ∷ []) (more_sided xs ys w.variable w.up sided)
+      (more_fine xs ys w.variable w.up sided count ∙ rw refused refl) ws)
+
   -- one item more
-  module _ (xs ys : List ℕ) (f : Found) (says : Says count xs ys f) (w : Widened) where
+  module _ (xs ys : List ℕ) (marks : List Bool) (says : Says count xs ys marks) (w : Widened) where
     abbrev x : ℕ
     x = w.variable
 
     abbrev y : ℕ
     y = w.up
 
-    noted_names : ltb x count ≡ true → Says count (xs ++ x ∷ []) (ys ++ y ∷ []) (noted_in count f w)
-    unfolding noted_in
-    noted_names e =
+    -- it is new where the question passes it too
+    new_passes : (names : Bool) → ltb x count ≡ names → is_new count marks w ≡ widened_fine count (xs ++ x ∷ []) (ys ++ y ∷ [])
+    new_passes true e =
+        rw (more_fine xs ys x y says.sided count, says.passes, e, says.each x (is_set y) (ltb-true x count e)) refl
+    new_passes false e = rw (more_fine xs ys x y says.sided count, says.passes, e) refl
+
+    noted_says : widened_fine count (xs ++ x ∷ []) (ys ++ y ∷ []) ≡ true → ltb x count ≡ true
+        → Says count (xs ++ x ∷ []) (ys ++ y ∷ []) (set marks (mark_for w) true)
+    noted_says fine e =
         let names : x < count = ltb-true x count e in
-        let inside : mark_for w < length f.marks = omega (arith, mark_below count x (is_set y) names, says.long) in
-        rw
-        e
-        (record {
+        let inside : mark_for w < length marks = omega (arith, mark_below count x (is_set y) names, says.long) in
+        record {
           sided = more_sided xs ys x y says.sided;
-          long = length-set f.marks (mark_for w) true ∙ says.long;
+          long = length-set marks (mark_for w) true ∙ says.long;
           each =
               λ v up less.
-              set_mark f.marks (mark_for w) (mark_of v up) inside
+              set_mark marks (mark_for w) (mark_of v up) inside
               ∙ rw (says.each v up less, same_mark x (is_set y) v up) (sym (more_held xs ys x y says.sided v up));
-          refused =
-              rw
-              (says.refused, says.each x (is_set y) names, more_fine xs ys x y says.sided count, e)
-              (either (widened_fine count xs ys) (is_widened xs ys x (is_set y)));
-        })
+          passes = fine;
+        }
 
-    noted_beyond : ltb x count ≡ false → Says count (xs ++ x ∷ []) (ys ++ y ∷ []) (noted_in count f w)
-    unfolding noted_in
-    noted_beyond e =
-        let beyond : count ≤ x = ltb-false x count e in
+    -- and all that follow it, where what they say is known
+    next_says : (ws : List Widened)
+        → ((more : List Bool) → Says count (xs ++ x ∷ []) (ys ++ y ∷ []) more
+        → Outcome count ((xs ++ x ∷ []) ++ variables_of ws) ((ys ++ y ∷ []) ++ ups_of ws) (found_from count more ws))
+        → (new : Bool) → is_new count marks w ≡ new
+        → Outcome count (xs ++ x ∷ variables_of ws) (ys ++ y ∷ ups_of ws) (found_from count marks (w ∷ ws))
+    unfolding found_from noted_in Outcome
+    next_says ws rest true e =
+        let fine = sym (new_passes (ltb x count) refl) ∙ e in
         rw
-        e
-        (record {
-          sided = more_sided xs ys x y says.sided;
-          long = says.long;
-          each =
-              λ v up less.
-              says.each v up less
-              ∙ sym (more_held xs ys x y says.sided v up ∙ rw (ne_eqb x v (λ same. omega (arith, same))) (or-false (is_widened xs ys v up)));
-          refused = rw (more_fine xs ys x y says.sided count, e) (rw (and-false (widened_fine count xs ys)) refl);
-        })
-
-    noted_says : Says count (xs ++ x ∷ []) (ys ++ y ∷ []) (noted_in count f w)
-    noted_says = go (ltb x count) refl
-      where
-        go : (t : Bool) → ltb x count ≡ t → Says count (xs ++ x ∷ []) (ys ++ y ∷ []) (noted_in count f w)
-        go true e = noted_names e
-        go false e = noted_beyond e
+        (e, ← (append_snoc xs x (variables_of ws)), ← (append_snoc ys y (ups_of ws)))
+        (rest (set marks (mark_for w) true) (noted_says fine (and_left (ltb x count) (not (get_or marks (mark_for w) false)) e)))
+    next_says ws rest false e =
+        let refused = sym (new_passes (ltb x count) refl) ∙ e in
+        rw
+        (e, ← (append_snoc xs x (variables_of ws)), ← (append_snoc ys y (ups_of ws)))
+        (stays_refused (xs ++ x ∷ []) (ys ++ y ∷ []) (more_sided xs ys x y says.sided) refused ws)
 
   -- all that follow
-  from_says : (xs ys : List ℕ) (f : Found) (list : List Widened) → Says count xs ys f
-      → Says count (xs ++ variables_of list) (ys ++ ups_of list) (found_from count f list)
-  unfolding found_from
-  from_says xs ys f [] says = rw (append-nil xs, append-nil ys) says
-  from_says xs ys f (w ∷ ws) says =
-      rw
-      (← (append_snoc xs w.variable (variables_of ws)), ← (append_snoc ys w.up (ups_of ws)))
-      (from_says (xs ++ w.variable ∷ []) (ys ++ w.up ∷ []) (noted_in count f w) ws (noted_says xs ys f says w))
+  from_says : (xs ys : List ℕ) (marks : List Bool) (list : List Widened) → Says count xs ys marks
+      → Outcome count (xs ++ variables_of list) (ys ++ ups_of list) (found_from count marks list)
+  unfolding found_from Outcome
+  from_says xs ys marks [] says = rw (append-nil xs, append-nil ys) says
+  from_says xs ys marks (w ∷ ws) says =
+      next_says xs ys marks says w ws (λ more facts. from_says (xs ++ w.variable ∷ []) (ys ++ w.up ∷ []) more ws facts) (is_new count marks w) refl
 
   -- none before the first
   none_says : Says count [] [] nothing_found
@@ -203,17 +189,31 @@ module _ (count : ℕ) (few : count ≤ most_structurals + most_rows) where
         each =
             λ v up less.
             get_or-replicate (2 * (most_structurals + most_rows)) (mark_of v up) false false (omega (arith, mark_below count v up less));
-        refused = refl;
+        passes = refl;
       }
 
-  found_says : (list : List Widened) → Says count (variables_of list) (ups_of list) (found_in count list)
+  found_says : (list : List Widened) → Outcome count (variables_of list) (ups_of list) (found_in count list)
   unfolding found_in
   found_says list = from_says [] [] nothing_found list none_says
 
-pub marks_say : (count : ℕ) (list : List Widened) → count ≤ most_structurals + most_rows → (v : ℕ) (up : Bool) → v < count
-    → get_or (found_in count list).marks (mark_of v up) false ≡ is_widened (variables_of list) (ups_of list) v up
-marks_say count list few v up less = (found_says count few list).each v up less
+module _ (count : ℕ) (list : List Widened) (few : count ≤ most_structurals + most_rows) where
+  -- what a mark says
+  abbrev pub Marks : List Bool → Type 0
+  Marks marks = (v : ℕ) (up : Bool) → v < count → get_or marks (mark_of v up) false ≡ is_widened (variables_of list) (ups_of list) v up
 
-pub amiss_says : (count : ℕ) (list : List Widened) → count ≤ most_structurals + most_rows
-    → (found_in count list).amiss ≡ not (widened_fine count (variables_of list) (ups_of list))
-amiss_says count list few = (found_says count few list).refused
+  pub marks_say : {marks : List Bool} → found_in count list ≡ Some marks → Marks marks
+  unfolding Outcome
+  marks_say e = (subst (Outcome count (variables_of list) (ups_of list)) e (found_says count few list)).each
+
+  pub marks_long : {marks : List Bool} → found_in count list ≡ Some marks → length marks ≡ 2 * (most_structurals + most_rows)
+  unfolding Outcome
+  marks_long e = (subst (Outcome count (variables_of list) (ups_of list)) e (found_says count few list)).long
+
+  pub some_says : is_some (found_in count list) ≡ widened_fine count (variables_of list) (ups_of list)
+  unfolding Outcome
+  some_says = go (found_in count list) (found_says count few list)
+    where
+      go : (o : Option (List Bool)) → Outcome count (variables_of list) (ups_of list) o
+          → is_some o ≡ widened_fine count (variables_of list) (ups_of list)
+      go None refused = sym refused
+      go (Some marks) says = sym says.passes

@@ -3,13 +3,14 @@
 
 #![tactic(auto)]
 
-ghost use Rattle.std.specs.Prelude.{◌≡◌, Bool, false, not, ℕ, ◌<◌, get_or, take};
+ghost use Rattle.std.specs.Prelude.{◌≡◌, Bool, false, cond, ℕ, ◌+◌, ◌<◌, ◌≤◌, get_or, take, None, Some, IfSome, is_some};
+ghost use Rattle.questions.specs.Limits.{most_rows, most_structurals};
 ghost use Rattle.place_questions.specs.Tallies.{mark_of};
 ghost use Rattle.place_questions.specs.Questions.{widened_fine};
 ghost use Rattle.variable_kinds.specs.Variables.{is_widened};
 ghost use Rattle.many_widened.specs.Fewest.{most_widened};
 ghost use Rattle.widened_records.specs.Records.{count_of, ups_of, variables_of};
-ghost use Rattle.widened_records.specs.Found.{found_in, nothing_found, noted_in};
+ghost use Rattle.widened_records.specs.Found.{found_in, noted_in};
 
 use many_widened::MOST_WIDENED;
 pub use place_questions::MARKS;
@@ -24,14 +25,6 @@ pub struct Widened {
     pub up: u8,
 }
 
-/// What the search of a widened list has found: a mark for each variable and side that it holds, and whether an item names no
-/// variable or comes twice.
-#[derive(Drop)]
-pub struct Found {
-    pub marks: [bool; MARKS],
-    pub amiss: bool,
-}
-
 /// How many variables there are, the slacks among them; none where there are more rows or structural variables than a sheet
 /// may have.
 pub fn variable_count(rows: usize, structurals: usize) -> usize
@@ -44,42 +37,34 @@ pub fn variable_count(rows: usize, structurals: usize) -> usize
     }
 }
 
-/// Before the search.
-fn nothing_found() -> Found
-    ensures { result ≡ nothing_found }
-{
-    Found {
-        marks: [false; MARKS],
-        amiss: false,
-    }
-}
-
-/// One item more.
+/// Sets an item's mark, and answers whether the item is new: it names one of `count` variables, and its mark was not set.
 #[tactic(auto, unfolding(crate::specs::Found::noted_in))]
-fn noted(mut found: Found, w: Widened, rows: usize, structurals: usize) -> Found
-    ensures { result ≡ noted_in (count_of rows structurals) found w }
+fn noted(w: Widened, count: usize, marks: &mut [bool; MARKS]) -> bool
+    requires { count ≤ most_structurals + most_rows }
+    ensures { cond result (Some marks.new) None ≡ noted_in count marks.old w }
 {
-    let v = w.variable;
-    if v < variable_count(rows, structurals) {
-        let at = mark_of(v, w.up);
-        let again = found.marks[at];
-        found.marks[at] = true;
-        found.amiss = found.amiss | again;
-    } else {
-        found.amiss = true;
+    if w.variable >= count {
+        return false;
     }
-    found
+    let at = mark_of(w.variable, w.up);
+    let again = marks[at];
+    marks[at] = true;
+    !again
 }
 
-/// Searches the list: whether an item is amiss, and where none is, of each variable and side whether it is widened. A list
-/// that is longer than any without one amiss is gone through as far as that shows.
-pub fn search(list: &[Widened], rows: usize, structurals: usize) -> Found
+/// Searches the list: a mark for each variable and side that it widens, or none where an item names no variable or comes twice. A
+/// list that is longer than any without such an item is gone through as far as that shows.
+pub fn search(list: &[Widened], rows: usize, structurals: usize) -> Option<[bool; MARKS]>
     ensures value { result ≡ found_in (count_of rows structurals) (take most_widened list.now) }
-    ensures marks_value { result.amiss ≡ false → (v : ℕ) (up : Bool) → v < count_of rows structurals → get_or result.marks (mark_of v up) false ≡ is_widened (variables_of list.now) (ups_of list.now) v up }
-    ensures amiss_value { result.amiss ≡ not (widened_fine (count_of rows structurals) (variables_of list.now) (ups_of list.now)) }
+    ensures marks_value { IfSome result (λ marks. (v : ℕ) (up : Bool) → v < count_of rows structurals → get_or marks (mark_of v up) false ≡ is_widened (variables_of list.now) (ups_of list.now) v up) }
+    ensures some_value { is_some result ≡ widened_fine (count_of rows structurals) (variables_of list.now) (ups_of list.now) }
 {
-    list.iter().take(MOST_WIDENED).fold(
-        nothing_found(),
-        |found, w| noted(found, *w, rows, structurals),
-    )
+    let count = variable_count(rows, structurals);
+    let mut marks = [false; MARKS];
+    for w in &list[..MOST_WIDENED.min(list.len())] {
+        if !noted(*w, count, &mut marks) {
+            return None;
+        }
+    }
+    Some(marks)
 }

@@ -1,9 +1,13 @@
 -- `listed` meets its contract. Assumes nothing.
-use Rattle.found_lists.proofs.Listing.{amiss, fine}
+use Rattle.found_lists.proofs.Listing.{none, some}
 use Rattle.found_lists.proofs.listed.Goals as goal
 
-pub returns-then-found : goal.returns-then-found
-returns-then-found c = let all = amiss c.args.found c.args.count c.args.vars.now c.args.ups.now c.if-found.true in record { value = all.0; vars_after = all.1.0; ups_after = all.1.1 }
+pub returns-in-Some : goal.returns-in-Some
+returns-in-Some c =
+    let put = c.put_items.ensures in
+    let all = some c.args.count c.args.vars.now c.args.ups.now c.args.found.now _ c.in-Some.is put.value put.vars_after put.ups_after in
+    record { value = all.0; vars_after = all.1.0; ups_after = all.1.1 }
 
-pub returns-else-found : goal.returns-else-found
-returns-else-found c = let all = fine c.args.found c.args.count c.args.vars.now c.args.ups.now c.if-found.false c.put_items.ensures.value c.put_items.ensures.vars_after c.put_items.ensures.ups_after in record { value = all.0; vars_after = all.1.0; ups_after = all.1.1 }
+pub returns-in-None : goal.returns-in-None
+returns-in-None c =
+    let all = none c.args.count c.args.vars.now c.args.ups.now c.args.found.now c.in-None.is in record { value = all.0; vars_after = all.1.0; ups_after = all.1.1 }

@@ -10,30 +10,30 @@ listed-items-requires c = (counted_few (sheet_lent c.args.s.now c.args.l.now c.a
 
 pub slice_bounds-vars-end : goal.slice_bounds-vars-end
 slice_bounds-vars-end c =
-    in_variables c.args.found (sheet_lent c.args.s.now c.args.l.now c.args.errors.now) c.variable_count.ensures
+    in_variables c.args.found.now (sheet_lent c.args.s.now c.args.l.now c.args.errors.now) c.variable_count.ensures
     (c.listed-items.ensures.value, (c.listed-items.ensures.vars_after, c.listed-items.ensures.ups_after))
 
 pub slice_bounds-whole-end : goal.slice_bounds-whole-end
 slice_bounds-whole-end c =
     front_long c.listed-items.new.vars
-    (in_variables c.args.found (sheet_lent c.args.s.now c.args.l.now c.args.errors.now) c.variable_count.ensures
+    (in_variables c.args.found.now (sheet_lent c.args.s.now c.args.l.now c.args.errors.now) c.variable_count.ensures
     (c.listed-items.ensures.value, (c.listed-items.ensures.vars_after, c.listed-items.ensures.ups_after)))
 
 pub slice_bounds-ups-end : goal.slice_bounds-ups-end
 slice_bounds-ups-end c =
-    in_sides c.args.found (sheet_lent c.args.s.now c.args.l.now c.args.errors.now) c.variable_count.ensures
+    in_sides c.args.found.now (sheet_lent c.args.s.now c.args.l.now c.args.errors.now) c.variable_count.ensures
     (c.listed-items.ensures.value, (c.listed-items.ensures.vars_after, c.listed-items.ensures.ups_after))
 
 pub slice_bounds-whole-end-2 : goal.slice_bounds-whole-end-2
 slice_bounds-whole-end-2 c =
     front_long c.listed-items.new.ups
-    (in_sides c.args.found (sheet_lent c.args.s.now c.args.l.now c.args.errors.now) c.variable_count.ensures
+    (in_sides c.args.found.now (sheet_lent c.args.s.now c.args.l.now c.args.errors.now) c.variable_count.ensures
     (c.listed-items.ensures.value, (c.listed-items.ensures.vars_after, c.listed-items.ensures.ups_after)))
 
 pub returns : goal.returns
 returns c =
     let all =
-    found_full c.args.found (sheet_lent c.args.s.now c.args.l.now c.args.errors.now) c.variable_count.ensures
+    found_full c.args.found.now (sheet_lent c.args.s.now c.args.l.now c.args.errors.now) c.variable_count.ensures
     (c.listed-items.ensures.value, (c.listed-items.ensures.vars_after, c.listed-items.ensures.ups_after))
     (lent (lent_lists c.args.l.now) c.args.errors.now) c.verdict_of.result
     (c.verdict_of.ensures.value, (c.verdict_of.ensures.lent_after, c.verdict_of.ensures.no_point)) in
