@@ -36,15 +36,15 @@ pub abs_up_is : (c : CDouble) {n : CDouble} {v r : Float} {b : Bool} → v ≡ v
 unfolding abs_up
 abs_up_is c e t f g = g ∙ ap (λ (d : CDouble). rounded d true) (f ∙ ap (λ (b : Bool). cond b (negated c) c) (sym t) ∙ ap (λ (x : Float). cond (lt x plus_zero) (negated c) c) e)
 
--- ---- `compensated_error`, from what its calls gave: longest and terms as doubles, and the scale
-pub compensated_is : (terms longest : ℕ) (m : Float) {l x t : Float} → l ≡ as_f64 longest → x ≡ larger ((l ⊕ fin false 1 (pos 1)) ⊘ fin false 1 (pos 3)) (fin false 1 (pos 0)) → t ≡ as_f64 terms
-    → (t ⊕ fin false 1 (pos 0)) ⊗ x ⊗ unit_error ⊗ m ≡ compensated_error terms longest m
-unfolding compensated_error
-compensated_is terms longest m {x = x} e f g =
-    ap (λ (y : Float). (y ⊕ fin false 1 (pos 0)) ⊗ x ⊗ unit_error ⊗ m) g
-    ∙ ap (λ (y : Float). (as_f64 terms ⊕ fin false 1 (pos 0)) ⊗ y ⊗ unit_error ⊗ m) (f ∙ ap (λ (y : Float). larger ((y ⊕ fin false 1 (pos 1)) ⊘ fin false 1 (pos 3)) (fin false 1 (pos 0))) e)
+-- ---- the literals, as the compiler works them out
+pub two_is : of_bits binary64 0x4000_0000_0000_0000 ≡ fin false 1 (pos 1)
+unfolding of_bits
+two_is = refl
 
--- the constant, as the compiler works it out
+pub eight_is : of_bits binary64 0x4020_0000_0000_0000 ≡ fin false 1 (pos 3)
+unfolding of_bits
+eight_is = refl
+
 pub unit_error_lem : unit_error ≡ of_bits binary64 0x39B0_0000_0000_0000
 unfolding mul round of_bits of_fields odd count_trailing_zeros size units
 unit_error_lem = refl

@@ -22,9 +22,9 @@ made a b x y c z u v e = record {
     back : (a b x z : ℤ) → x *ℤ pos (2 ^ 0) +ℤ ((a -ℤ (x -ℤ z)) +ℤ (b -ℤ z)) *ℤ pos (2 ^ 0) ≡ a +ℤ b
     back = all _ λ a a'. all _ λ b b'. all _ λ x x'. all _ λ z z'. simp differences (omega arith)
 
-pub two_sum-exact : (a b : Float) → T (fits binary64 a) → T (fits binary64 b) → SumRange a b → IsExact 0 (exact a +ℤ exact b) (two_sum a b)
+pub two_sum_exact : (a b : Float) → T (fits binary64 a) → T (fits binary64 b) → SumRange a b → IsExact 0 (exact a +ℤ exact b) (two_sum a b)
 unfolding two_sum
-two_sum-exact a b ha hb R =
+two_sum_exact a b ha hb R =
     let u = known a R.0.is_finite ha in
     let v = known b R.1.is_finite hb in
     let K = knuth (2 ^ 2096) (exact a) (exact b) (known_exactly (2 ^ 2096) a R.0.is_finite ha R.0.cap) (known_exactly (2 ^ 2096) b R.1.is_finite hb R.1.cap) in

@@ -20,8 +20,8 @@ use Rattle.cdouble.specs.declared.CDouble.{CDouble}
 use Rattle.cdouble.specs.Compensated.{◌⊕◌, ◌⊗◌, plus_zero, two_sum, two_product, product_error, upper, lower}
 use Rattle.cdouble.specs.Exactness.{SumRange, AtMost, InRange, IsExact}
 use Rattle.cdouble.proofs.RoundedUp.{upper_least, lower_greatest, exact-zero, zero-fits}
-use Rattle.cdouble.proofs.TwoSum.{two_sum-exact}
-use Rattle.cdouble.proofs.TwoProduct.{two_product-exact}
+use Rattle.cdouble.proofs.TwoSum.{two_sum_exact}
+use Rattle.cdouble.proofs.TwoProduct.{two_product_exact}
 use Rattle.directed.specs.Far.{Far, Clear, NotMinusZero, past}
 use Rattle.directed.proofs.Inexact.{inexact_large, far_clear, far-zero}
 use Rattle.directed.proofs.Limits.{in_range, product_at_most}
@@ -61,7 +61,7 @@ module _ (a b : Float) (ha : T (fits binary64 a)) (hb : T (fits binary64 b)) (R 
   pair = two_sum a b
 
   exactly : IsExact 0 (exact a +ℤ exact b) pair
-  exactly = two_sum-exact a b ha hb R.0
+  exactly = two_sum_exact a b ha hb R.0
 
   lo_fits : T (fits binary64 pair.lo)
   unfolding two_sum
@@ -99,7 +99,7 @@ module _ (a b : Float) (ha : T (fits binary64 a)) (hb : T (fits binary64 b)) (ra
   product_end : (up : Bool) → Far (two_product a b).hi → end up (two_product a b) ≡ cond up (product_up a b) (product_down a b)
   unfolding two_product product_error
   product_end up F =
-      end_rounded 1074 (exact a *ℤ exact b) (two_product a b) (mul-fits binary64 a b) (sub-fits binary64 _ _) (two_product-exact a b ha hb (inr (inr (range F)))) (far-zero (a ⊗ b) (mul-fits binary64 a b) F) up
+      end_rounded 1074 (exact a *ℤ exact b) (two_product a b) (mul-fits binary64 a b) (sub-fits binary64 _ _) (two_product_exact a b ha hb (inr (inr (range F)))) (far-zero (a ⊗ b) (mul-fits binary64 a b) F) up
       (far_clear F (past up (two_product a b).lo))
       ∙ go up
     where
