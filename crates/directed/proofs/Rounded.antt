@@ -99,7 +99,8 @@ module _ (a b : Float) (ha : T (fits binary64 a)) (hb : T (fits binary64 b)) (ra
   product_end : (up : Bool) → Far (two_product a b).hi → end up (two_product a b) ≡ cond up (product_up a b) (product_down a b)
   unfolding two_product product_error
   product_end up F =
-      end_rounded 1074 (exact a *ℤ exact b) (two_product a b) (mul-fits binary64 a b) (sub-fits binary64 _ _) (two_product_exact a b ha hb (inr (inr (range F)))) (far-zero (a ⊗ b) (mul-fits binary64 a b) F) up
+      end_rounded 1074 (exact a *ℤ exact b) (two_product a b) (mul-fits binary64 a b) (sub-fits binary64 _ _)
+      (two_product_exact a b ha hb (inr (inr (range F)))) (far-zero (a ⊗ b) (mul-fits binary64 a b) F) up
       (far_clear F (past up (two_product a b).lo))
       ∙ go up
     where

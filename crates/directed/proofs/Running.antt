@@ -97,7 +97,8 @@ module _ (up : Bool) (c a b : Float) (rc : AtMost 1020 c) (ra : AtMost 510 a) (r
 
   pub first : T (fits binary64 c) → {p : Float} → p ≡ product → SumRange p c × NotMinusZero (p ⊕ c)
   first hc e = subst (λ (p : Float). SumRange p c × NotMinusZero (p ⊕ c)) (sym e)
-      (product_first product c (product_fits up a b ra.is_finite rb.is_finite) hc (product_clear up a b ra.is_finite rb.is_finite) (weaker 1020 1022 product (omega arith) most, weaker 1020 1022 c (omega arith) rc))
+      (product_first product c (product_fits up a b ra.is_finite rb.is_finite) hc (product_clear up a b ra.is_finite rb.is_finite)
+      (weaker 1020 1022 product (omega arith) most, weaker 1020 1022 c (omega arith) rc))
 
   turned : {s p : Float} → s ≡ sum_to up p c → p ≡ product → s ≡ sum
   turned e f = e ∙ ap (λ (p : Float). sum_to up p c) f ∙ sum_turned (round_to up 0) product c most.is_finite rc.is_finite

@@ -1,5 +1,5 @@
 -- `near_product` meets its contract. Assumes nothing.
-use mathlib.Core.Bool.{true, false}
+use mathlib.Core.Bool.{Bool, true, false}
 use mathlib.Core.Path.{◌∙◌}
 use Rattle.doubles.proofs.Tests.{fit}
 use Rattle.directed.specs.Far.{Far}
@@ -32,4 +32,5 @@ returns-then-far c =
     let p = c.two_product-p.result in
     let is = c.two_product-p.ensures.0 in
     let far = is-far c.before.before in
-    (c.outward.ensures ∙ product_is c.args.a c.args.b ha hb c.requires.0 c.requires.1 false p is far, c.outward-then-far.ensures ∙ product_is c.args.a c.args.b ha hb c.requires.0 c.requires.1 true p is far)
+    let rounded = λ (up : Bool). product_is c.args.a c.args.b ha hb c.requires.0 c.requires.1 up p is far in
+    (c.outward.ensures ∙ rounded false, c.outward-then-far.ensures ∙ rounded true)
