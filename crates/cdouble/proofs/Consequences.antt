@@ -48,7 +48,8 @@ rounded_toward c false z E = lower_greatest 0 z (normalized c) (add-fits binary6
 -- ---- its absolute value
 -- no number of units but 0 rounds to 0
 negative_rounded : (z : ℤ) → z ≺ pos 0 → to_nearest 0 z ≺ pos 0
-negative_rounded z h = below (to_nearest 0 z) (subst (λ (w : ℤ). to_nearest 0 z ≼ w) (to_nearest_same 0 (negsuc 0) (representable_pow 53 (lit< tt) 0)) (to_nearest_mono 0 z (negsuc 0 *ℤ pos 1) (down z h)))
+negative_rounded z h = below (to_nearest 0 z)
+    (subst (λ (w : ℤ). to_nearest 0 z ≼ w) (to_nearest_same 0 (negsuc 0) (representable_pow 53 (lit< tt) 0)) (to_nearest_mono 0 z (negsuc 0 *ℤ pos 1) (down z h)))
   where
     down : (z : ℤ) → z ≺ pos 0 → z ≼ negsuc 0 *ℤ pos 1
     down = all _ λ z z'. simp differences (λ h. omega arith)
@@ -74,7 +75,8 @@ abs_positive (negsuc n) h = absurd h.le
 pub abs_up_least : (c : CDouble) (z : ℤ) → IsExact 0 z (normalized c) → IsExact 0 (neg_ℤ z) (normalized (negated c)) → IsUp 0 (abs_ℤ z) (abs_up c)
 unfolding abs_up value normalized two_sum
 abs_up_least c z E F =
-    go (lt (value c) plus_zero) (λ t. was_below (rw (exact-zero, E.nearest) at (lt_to (value c) plus_zero E.hi_finite tt v zero-fits t))) (λ o. lt_of (value c) plus_zero E.hi_finite tt v zero-fits (rw (exact-zero, E.nearest) (negative_rounded z o)))
+    go (lt (value c) plus_zero) (λ t. was_below (rw (exact-zero, E.nearest) at (lt_to (value c) plus_zero E.hi_finite tt v zero-fits t)))
+    (λ o. lt_of (value c) plus_zero E.hi_finite tt v zero-fits (rw (exact-zero, E.nearest) (negative_rounded z o)))
   where
     v : T (fits binary64 (value c))
     v = add-fits binary64 _ _
@@ -101,7 +103,8 @@ pub abs_up-in_range : (c : CDouble) → T (fits binary64 c.hi) → T (fits binar
 unfolding negated
 abs_up-in_range c h l R =
     abs_up_least c (exact c.hi +ℤ exact c.lo) (normalized_exact c h l R)
-    (subst (λ (z : ℤ). IsExact 0 z (normalized (negated c))) (negated-sum c.hi c.lo) (normalized_exact (negated c) (neg-fits binary64 c.hi h) (neg-fits binary64 c.lo l) (at_most_neg 1022 c.hi R.0, at_most_neg 1022 c.lo R.1)))
+    (subst (λ (z : ℤ). IsExact 0 z (normalized (negated c))) (negated-sum c.hi c.lo)
+    (normalized_exact (negated c) (neg-fits binary64 c.hi h) (neg-fits binary64 c.lo l) (at_most_neg 1022 c.hi R.0, at_most_neg 1022 c.lo R.1)))
 
 -- ---- distance: a pair that is exact stays so under another two-sum, so the range is that of one
 pub normalized_again : (c : CDouble) (z : ℤ) → T (fits binary64 c.hi) → T (fits binary64 c.lo) → IsExact 0 z c → IsExact 0 z (normalized c)

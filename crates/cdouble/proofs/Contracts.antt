@@ -1,11 +1,10 @@
 -- What the functions' proofs share: a law of a definition holds of a result that is equal to it, and the ways of the tests. Assumes nothing.
-use Rattle.std.proofs.Common.{◌≡◌, ℕ, Bool, true, false, cond, not, pos, sym, refl, ap, ◌∙◌, subst, true≢false}
+use Rattle.std.proofs.Common.{◌≡◌, Bool, true, false, cond, not, pos, sym, refl, ap, ◌∙◌, subst, true≢false}
 use lib.Ieee.{Float, fin, binary64, lt, mul, round, units, of_bits, of_fields, odd, size}
 use lib.Count.{count_trailing_zeros}
 use Rattle.doubles.specs.Neighbours.{next_up, next_down}
-use Rattle.doubles.specs.Compare.{larger}
 use Rattle.cdouble.specs.declared.CDouble.{CDouble}
-use Rattle.cdouble.specs.Compensated.{◌⊕◌, ◌⊗◌, ◌⊘◌, as_f64, plus_zero, upper, lower, normalized, rounded, value, negated, abs_up, unit_error, compensated_error}
+use Rattle.cdouble.specs.Compensated.{plus_zero, upper, lower, normalized, rounded, value, negated, abs_up, unit_error}
 
 pub carried : {A : Type 0} {r d : A} {R : Type 0} (P : A → Type 0) → r ≡ d → (R → P d) → (r ≡ d) × (R → P r)
 carried P e f = (e, λ x. subst P (sym e) (f x))

@@ -11,7 +11,8 @@ use Rattle.error_free.proofs.Knuth.{knuth}
 use Rattle.error_free.proofs.Steps.{HasExact, known, as_value, known_exactly, known_double, is_double, double_as, zero_double, in_range, add_rounded, sub_rounded, add_kept, sub_kept}
 
 -- the parts, by their exact values
-made : (a b x y : Float) (c z : ℤ) → HasExact c x → HasExact ((exact a -ℤ (c -ℤ z)) +ℤ (exact b -ℤ z)) y → c ≡ to_nearest 0 (exact a +ℤ exact b) → IsExact 0 (exact a +ℤ exact b) (record { hi = x; lo = y })
+made : (a b x y : Float) (c z : ℤ) → HasExact c x → HasExact ((exact a -ℤ (c -ℤ z)) +ℤ (exact b -ℤ z)) y
+    → c ≡ to_nearest 0 (exact a +ℤ exact b) → IsExact 0 (exact a +ℤ exact b) (record { hi = x; lo = y })
 made a b x y c z u v e = record {
   hi_finite = u.is_finite;
   lo_finite = v.is_finite;

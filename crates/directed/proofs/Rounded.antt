@@ -1,11 +1,11 @@
 -- Of a sum or product that is exact as a pair, the high part or its neighbour is the number rounded outward: both are least, or greatest. Assumes nothing.
 use mathlib.Core.Path.{◌≡◌, refl, sym, ap, ◌∙◌, subst}
 use mathlib.Core.Logic.{inr}
-use mathlib.Core.Bool.{Bool, true, false, not, cond, beq}
+use mathlib.Core.Bool.{Bool, true, false, not, cond, beq, ◌||◌}
 use Prim.Native.Nat.{ℕ, ◌+◌, ◌-◌, ◌^◌, ◌<◌}
 use lib.IntN.{ℤ, pos, ◌+ℤ◌, ◌*ℤ◌}
 use lib.Dec.{T, ltb}
-use lib.Ieee.{Float, binary64, fits, to_bits, of_bits, nan_bits}
+use lib.Ieee.{Float, binary64, fits, to_bits, of_bits, nan_bits, le, neg}
 use lib.Ieee.Fits.{add-fits, sub-fits, mul-fits}
 use lib.Ieee.Scale.{finite}
 use Rattle.exact.specs.Value.{exact}
@@ -24,7 +24,7 @@ use Rattle.cdouble.proofs.TwoSum.{two_sum_exact}
 use Rattle.cdouble.proofs.TwoProduct.{two_product_exact}
 use Rattle.directed.specs.Far.{Far, Clear, NotMinusZero, past}
 use Rattle.directed.proofs.Inexact.{inexact_large, far_clear, far-zero}
-use Rattle.directed.proofs.Limits.{in_range, product_at_most}
+use Rattle.directed.proofs.Limits.{in_range, product_at_most, far_tested}
 use Rattle.directed.proofs.Neighbour.{neighbour, stepped_no_zero, stepped_pattern, within_words}
 
 -- ---- the pair's high part or its neighbour, up or down
@@ -111,10 +111,15 @@ module _ (a b : Float) (ha : T (fits binary64 a)) (hb : T (fits binary64 b)) (ra
   pub product_is : (up : Bool) (c : CDouble) → c ≡ two_product a b → Far c.hi → end up c ≡ cond up (product_up a b) (product_down a b)
   product_is up c e F = ap (end up) e ∙ product_end up (subst (λ (d : CDouble). Far d.hi) e F)
 
-  pub product_fits : (c : CDouble) → c ≡ two_product a b → T (fits binary64 c.hi)
+  product_fits : (c : CDouble) → c ≡ two_product a b → T (fits binary64 c.hi)
   unfolding two_product
   product_fits c e = subst (λ (d : CDouble). T (fits binary64 d.hi)) (sym e) (mul-fits binary64 a b)
 
-  pub product_finite_hi : (c : CDouble) → c ≡ two_product a b → T (finite c.hi)
+  product_finite_hi : (c : CDouble) → c ≡ two_product a b → T (finite c.hi)
   unfolding two_product
   product_finite_hi c e = subst (λ (d : CDouble). T (finite d.hi)) (sym e) (product_at_most a b ha hb ra rb).is_finite
+
+  -- the test `far` of its high part
+  pub product_far : (c : CDouble) {r : Bool} → c ≡ two_product a b
+      → r ≡ (le c.hi (neg (of_bits binary64 0x0360_0000_0000_0000)) || le (of_bits binary64 0x0360_0000_0000_0000) c.hi) → r ≡ true → Far c.hi
+  product_far c e = far_tested c.hi (product_finite_hi c e) (product_fits c e)

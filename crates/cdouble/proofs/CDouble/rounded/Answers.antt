@@ -30,7 +30,8 @@ returns-then-error c = toward c.before.before.before.before
 pub returns-then-error-2 : goal.returns-then-error-2
 unfolding rounded upper lower normalized of_bits
 returns-then-error-2 c = toward c.before.before.before.before.before
-    (when_false (upper (normalized c.args.self)) (when_true c.two_sum-s.result.hi c.next_down.ensures c.if-error-2.true ∙ ap lower c.two_sum-s.ensures.0) (not_true c.args.up (ap not c.if-not-up.true)))
+    (when_false (upper (normalized c.args.self)) (when_true c.two_sum-s.result.hi c.next_down.ensures c.if-error-2.true ∙ ap lower c.two_sum-s.ensures.0)
+    (not_true c.args.up (ap not c.if-not-up.true)))
 
 pub returns-else-not-up : goal.returns-else-not-up
 unfolding normalized of_bits

@@ -10,4 +10,5 @@ use Rattle.cdouble.proofs.CDouble.two_product.Goals as goal
 
 pub returns : goal.returns
 unfolding two_product product_error
-returns c = carried (IsExact 1074 (exact c.args.a *ℤ exact c.args.b)) (rw (c.split-p.ensures.0, c.split-q.ensures.0)) (two_product_exact c.args.a c.args.b (fit c.args.a c.well_formed.0.1) (fit c.args.b c.well_formed.1.0.1))
+returns c = carried (IsExact 1074 (exact c.args.a *ℤ exact c.args.b)) (rw (c.split-p.ensures.0, c.split-q.ensures.0))
+    (two_product_exact c.args.a c.args.b (fit c.args.a c.well_formed.0.1) (fit c.args.b c.well_formed.1.0.1))
