@@ -16,8 +16,8 @@ use Rattle.doubles.specs.Directed.{IsUp}
 use Rattle.cdouble.specs.declared.CDouble.{CDouble}
 use Rattle.cdouble.specs.Compensated.{plus_zero, two_sum, two_product, product_error, negated, normalized, value, upper, rounded, abs_up, add_up, mul_up, distance_up}
 use Rattle.cdouble.specs.Exactness.{AtMost, SumRange, ProductRange, IsExact, IsToward, abs_ℤ}
-use Rattle.cdouble.proofs.TwoSum.{two_sum-exact, two_sum_again}
-use Rattle.cdouble.proofs.TwoProduct.{two_product-exact}
+use Rattle.cdouble.proofs.TwoSum.{two_sum_exact, two_sum_again}
+use Rattle.cdouble.proofs.TwoProduct.{two_product_exact}
 use Rattle.cdouble.proofs.RoundedUp.{exact-zero, zero-fits, upper_least, lower_greatest, exact_mirror}
 
 magnitude-neg : (x : Float) → magnitude (neg x) ≡ magnitude x
@@ -33,11 +33,11 @@ sum-upper a b z E = upper_least 0 z (two_sum a b) (add-fits binary64 _ _) (add-f
 
 pub add_up_least : (a b : Float) → T (fits binary64 a) → T (fits binary64 b) → SumRange a b → IsUp 0 (exact a +ℤ exact b) (add_up a b)
 unfolding add_up
-add_up_least a b ha hb R = sum-upper a b (exact a +ℤ exact b) (two_sum-exact a b ha hb R)
+add_up_least a b ha hb R = sum-upper a b (exact a +ℤ exact b) (two_sum_exact a b ha hb R)
 
 pub mul_up_least : (a b : Float) → T (fits binary64 a) → T (fits binary64 b) → ProductRange a b → IsUp 1074 (exact a *ℤ exact b) (mul_up a b)
 unfolding mul_up two_product product_error
-mul_up_least a b ha hb R = upper_least 1074 (exact a *ℤ exact b) (two_product a b) (mul-fits binary64 a b) (sub-fits binary64 _ _) (two_product-exact a b ha hb R)
+mul_up_least a b ha hb R = upper_least 1074 (exact a *ℤ exact b) (two_product a b) (mul-fits binary64 a b) (sub-fits binary64 _ _) (two_product_exact a b ha hb R)
 
 -- ---- a pair rounded to one side
 pub rounded_toward : (c : CDouble) (up : Bool) (z : ℤ) → IsExact 0 z (normalized c) → IsToward up 0 z (rounded c up)
@@ -48,7 +48,8 @@ rounded_toward c false z E = lower_greatest 0 z (normalized c) (add-fits binary6
 -- ---- its absolute value
 -- no number of units but 0 rounds to 0
 negative_rounded : (z : ℤ) → z ≺ pos 0 → to_nearest 0 z ≺ pos 0
-negative_rounded z h = below (to_nearest 0 z) (subst (λ (w : ℤ). to_nearest 0 z ≼ w) (to_nearest_same 0 (negsuc 0) (representable_pow 53 (lit< tt) 0)) (to_nearest_mono 0 z (negsuc 0 *ℤ pos 1) (down z h)))
+negative_rounded z h = below (to_nearest 0 z)
+    (subst (λ (w : ℤ). to_nearest 0 z ≼ w) (to_nearest_same 0 (negsuc 0) (representable_pow 53 (lit< tt) 0)) (to_nearest_mono 0 z (negsuc 0 *ℤ pos 1) (down z h)))
   where
     down : (z : ℤ) → z ≺ pos 0 → z ≼ negsuc 0 *ℤ pos 1
     down = all _ λ z z'. simp differences (λ h. omega arith)
@@ -74,7 +75,8 @@ abs_positive (negsuc n) h = absurd h.le
 pub abs_up_least : (c : CDouble) (z : ℤ) → IsExact 0 z (normalized c) → IsExact 0 (neg_ℤ z) (normalized (negated c)) → IsUp 0 (abs_ℤ z) (abs_up c)
 unfolding abs_up value normalized two_sum
 abs_up_least c z E F =
-    go (lt (value c) plus_zero) (λ t. was_below (rw (exact-zero, E.nearest) at (lt_to (value c) plus_zero E.hi_finite tt v zero-fits t))) (λ o. lt_of (value c) plus_zero E.hi_finite tt v zero-fits (rw (exact-zero, E.nearest) (negative_rounded z o)))
+    go (lt (value c) plus_zero) (λ t. was_below (rw (exact-zero, E.nearest) at (lt_to (value c) plus_zero E.hi_finite tt v zero-fits t)))
+    (λ o. lt_of (value c) plus_zero E.hi_finite tt v zero-fits (rw (exact-zero, E.nearest) (negative_rounded z o)))
   where
     v : T (fits binary64 (value c))
     v = add-fits binary64 _ _
@@ -90,9 +92,9 @@ abs_up_least c z E F =
 pub at_most_neg : (k : ℕ) (x : Float) → AtMost k x → AtMost k (neg x)
 at_most_neg k x R = record { is_finite = rw (finite-neg x) R.is_finite; cap = subst (λ (n : ℕ). n ≤ 2 ^ (1074 + k)) (sym (magnitude-neg x)) R.cap }
 
-pub normalized-exact : (c : CDouble) → T (fits binary64 c.hi) → T (fits binary64 c.lo) → SumRange c.hi c.lo → IsExact 0 (exact c.hi +ℤ exact c.lo) (normalized c)
+pub normalized_exact : (c : CDouble) → T (fits binary64 c.hi) → T (fits binary64 c.lo) → SumRange c.hi c.lo → IsExact 0 (exact c.hi +ℤ exact c.lo) (normalized c)
 unfolding normalized
-normalized-exact c h l R = two_sum-exact c.hi c.lo h l R
+normalized_exact c h l R = two_sum_exact c.hi c.lo h l R
 
 negated-sum : (a b : Float) → exact (neg a) +ℤ exact (neg b) ≡ neg_ℤ (exact a +ℤ exact b)
 negated-sum a b = ap (λ (z : ℤ). z +ℤ exact (neg b)) (exact-neg a) ∙ ap (λ (z : ℤ). neg_ℤ (exact a) +ℤ z) (exact-neg b) ∙ sym (neg_ℤ-+ℤ (exact a) (exact b))
@@ -100,8 +102,9 @@ negated-sum a b = ap (λ (z : ℤ). z +ℤ exact (neg b)) (exact-neg a) ∙ ap (
 pub abs_up-in_range : (c : CDouble) → T (fits binary64 c.hi) → T (fits binary64 c.lo) → SumRange c.hi c.lo → IsUp 0 (abs_ℤ (exact c.hi +ℤ exact c.lo)) (abs_up c)
 unfolding negated
 abs_up-in_range c h l R =
-    abs_up_least c (exact c.hi +ℤ exact c.lo) (normalized-exact c h l R)
-    (subst (λ (z : ℤ). IsExact 0 z (normalized (negated c))) (negated-sum c.hi c.lo) (normalized-exact (negated c) (neg-fits binary64 c.hi h) (neg-fits binary64 c.lo l) (at_most_neg 1022 c.hi R.0, at_most_neg 1022 c.lo R.1)))
+    abs_up_least c (exact c.hi +ℤ exact c.lo) (normalized_exact c h l R)
+    (subst (λ (z : ℤ). IsExact 0 z (normalized (negated c))) (negated-sum c.hi c.lo)
+    (normalized_exact (negated c) (neg-fits binary64 c.hi h) (neg-fits binary64 c.lo l) (at_most_neg 1022 c.hi R.0, at_most_neg 1022 c.lo R.1)))
 
 -- ---- distance: a pair that is exact stays so under another two-sum, so the range is that of one
 pub normalized_again : (c : CDouble) (z : ℤ) → T (fits binary64 c.hi) → T (fits binary64 c.lo) → IsExact 0 z c → IsExact 0 z (normalized c)
@@ -118,7 +121,7 @@ unfolding distance_up two_sum negated
 distance_up_least a b ha hb R =
     let c = two_sum a (neg b) in
     let z = exact a -ℤ exact b in
-    let E : IsExact 0 z c = rw (exact-neg b) at (two_sum-exact a (neg b) ha (neg-fits binary64 b hb) (R.0, at_most_neg 1022 b R.1)) in
+    let E : IsExact 0 z c = rw (exact-neg b) at (two_sum_exact a (neg b) ha (neg-fits binary64 b hb) (R.0, at_most_neg 1022 b R.1)) in
     let h : T (fits binary64 c.hi) = add-fits binary64 _ _ in
     let l : T (fits binary64 c.lo) = add-fits binary64 _ _ in
     abs_up_least c z (normalized_again c z h l E) (normalized_again (negated c) (neg_ℤ z) (neg-fits binary64 c.hi h) (neg-fits binary64 c.lo l) (exact_mirror 0 z c E))

@@ -1,11 +1,10 @@
 -- What the functions' proofs share: a law of a definition holds of a result that is equal to it, and the ways of the tests. Assumes nothing.
-use Rattle.std.proofs.Common.{◌≡◌, ℕ, Bool, true, false, cond, not, pos, sym, refl, ap, ◌∙◌, subst, true≢false}
+use Rattle.std.proofs.Common.{◌≡◌, Bool, true, false, cond, not, pos, sym, refl, ap, ◌∙◌, subst, true≢false}
 use lib.Ieee.{Float, fin, binary64, lt, mul, round, units, of_bits, of_fields, odd, size}
 use lib.Count.{count_trailing_zeros}
 use Rattle.doubles.specs.Neighbours.{next_up, next_down}
-use Rattle.doubles.specs.Compare.{larger}
 use Rattle.cdouble.specs.declared.CDouble.{CDouble}
-use Rattle.cdouble.specs.Compensated.{◌⊕◌, ◌⊗◌, ◌⊘◌, as_f64, plus_zero, upper, lower, normalized, rounded, value, negated, abs_up, unit_error, compensated_error}
+use Rattle.cdouble.specs.Compensated.{plus_zero, upper, lower, normalized, rounded, value, negated, abs_up, unit_error}
 
 pub carried : {A : Type 0} {r d : A} {R : Type 0} (P : A → Type 0) → r ≡ d → (R → P d) → (r ≡ d) × (R → P r)
 carried P e f = (e, λ x. subst P (sym e) (f x))
@@ -36,15 +35,15 @@ pub abs_up_is : (c : CDouble) {n : CDouble} {v r : Float} {b : Bool} → v ≡ v
 unfolding abs_up
 abs_up_is c e t f g = g ∙ ap (λ (d : CDouble). rounded d true) (f ∙ ap (λ (b : Bool). cond b (negated c) c) (sym t) ∙ ap (λ (x : Float). cond (lt x plus_zero) (negated c) c) e)
 
--- ---- `compensated_error`, from what its calls gave: longest and terms as doubles, and the scale
-pub compensated_is : (terms longest : ℕ) (m : Float) {l x t : Float} → l ≡ as_f64 longest → x ≡ larger ((l ⊕ fin false 1 (pos 1)) ⊘ fin false 1 (pos 3)) (fin false 1 (pos 0)) → t ≡ as_f64 terms
-    → (t ⊕ fin false 1 (pos 0)) ⊗ x ⊗ unit_error ⊗ m ≡ compensated_error terms longest m
-unfolding compensated_error
-compensated_is terms longest m {x = x} e f g =
-    ap (λ (y : Float). (y ⊕ fin false 1 (pos 0)) ⊗ x ⊗ unit_error ⊗ m) g
-    ∙ ap (λ (y : Float). (as_f64 terms ⊕ fin false 1 (pos 0)) ⊗ y ⊗ unit_error ⊗ m) (f ∙ ap (λ (y : Float). larger ((y ⊕ fin false 1 (pos 1)) ⊘ fin false 1 (pos 3)) (fin false 1 (pos 0))) e)
+-- ---- the literals, as the compiler works them out
+pub two_is : of_bits binary64 0x4000_0000_0000_0000 ≡ fin false 1 (pos 1)
+unfolding of_bits
+two_is = refl
 
--- the constant, as the compiler works it out
+pub eight_is : of_bits binary64 0x4020_0000_0000_0000 ≡ fin false 1 (pos 3)
+unfolding of_bits
+eight_is = refl
+
 pub unit_error_lem : unit_error ≡ of_bits binary64 0x39B0_0000_0000_0000
 unfolding mul round of_bits of_fields odd count_trailing_zeros size units
 unit_error_lem = refl

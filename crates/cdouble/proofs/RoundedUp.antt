@@ -86,7 +86,8 @@ within n = all _ λ a a'. all _ λ b b'. simp differences (λ k. omega (arith, m
 
 pub upper_least : (l : ℕ) (z : ℤ) (c : CDouble) → T (fits binary64 c.hi) → T (fits binary64 c.lo) → IsExact l z c → IsUp l z (upper c)
 unfolding upper
-upper_least l z c hh hl E = go (lt plus_zero c.lo) (λ t. rw exact-zero at (lt_to plus_zero c.lo tt E.lo_finite zero-fits hl t)) (λ o. lt_of plus_zero c.lo tt E.lo_finite zero-fits hl (rw exact-zero o))
+upper_least l z c hh hl E = go (lt plus_zero c.lo) (λ t. rw exact-zero at (lt_to plus_zero c.lo tt E.lo_finite zero-fits hl t))
+    (λ o. lt_of plus_zero c.lo tt E.lo_finite zero-fits hl (rw exact-zero o))
   where
     go : (b : Bool) → (T b → pos 0 ≺ exact c.lo) → (pos 0 ≺ exact c.lo → T b) → IsUp l z (cond b (next_up c.hi) c.hi)
     go true f g = rounded_down l z c.hi E.hi_finite E.nearest (subst (λ (w : ℤ). exact_at l c.hi ≺ w) E.whole (beyond (2 ^ l) (exact c.hi) (exact c.lo) (pow_pos l) (f tt)))

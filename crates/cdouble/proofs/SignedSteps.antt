@@ -56,7 +56,8 @@ module _ (u w : ℕ) (R : Representable 53 (distance u w)) (c : u ≤ top) (d : 
       let is = offset_sub s a b a' b' ∙ offset_same s (a + b') (b + a') u w e in
       as_value is (sub_kept X Y (double_as (sym is) (offset_double s u w R c d)))
 
-  pub mul_offset : (s t : Bool) (x y : Float) (a b a' b' : ℕ) → HasExact (offset s a b) x → HasExact (offset t a' b') y → a * a' + b * b' ≡ u * 2 ^ 1074 → a * b' + b * a' ≡ w * 2 ^ 1074 → HasExact (offset (unlike s t) u w) (x ⊗ y)
+  pub mul_offset : (s t : Bool) (x y : Float) (a b a' b' : ℕ) → HasExact (offset s a b) x → HasExact (offset t a' b') y
+      → a * a' + b * b' ≡ u * 2 ^ 1074 → a * b' + b * a' ≡ w * 2 ^ 1074 → HasExact (offset (unlike s t) u w) (x ⊗ y)
   mul_offset s t x y a b a' b' X Y e f =
       mul-kept X Y (offset (unlike s t) u w)
       (offset_mul s t a b a' b' ∙ ap (λ (n : ℕ). offset (unlike s t) n (a * b' + b * a')) e ∙ ap (λ (n : ℕ). offset (unlike s t) (u * 2 ^ 1074) n) f ∙ offset_scale (unlike s t) u w (2 ^ 1074))

@@ -1,6 +1,6 @@
 -- Dekker's split of a double is exact, in halves of at most 26 significant bits. Assumes nothing.
 use Rattle.std.proofs.Common.{◌≡◌, ℕ, ◌+◌, ◌-◌, ◌*◌, ◌^◌, ◌≤◌, Bool, true, false, T, ℤ, pos, ◌+ℤ◌, ◌-ℤ◌, ◌*ℤ◌, nat_abs, sym, refl, ap, ◌∙◌, subst, zero-le, le_trans, le_of_eq, arith, lit≤}
-use lib.Ieee.{Float, binary64, fits}
+use lib.Ieee.{Float, binary64, fits, of_bits}
 use lib.Ieee.Scale.{finite}
 use Rattle.exact.specs.Value.{sign, magnitude, exact}
 use Rattle.exact.specs.Representable.{Representable}
@@ -79,8 +79,8 @@ parts a h R =
     both a b = omega arith
 
 -- what 01 and the Rust say of it
-pub split-exact : (a : Float) → T (fits binary64 a) → AtMost 995 a → IsSplit a (split a)
-split-exact a h R =
+pub split_exact : (a : Float) → T (fits binary64 a) → AtMost 995 a → IsSplit a (split a)
+split_exact a h R =
     let s = sign a in
     let A = magnitude a in
     let H = high64 A in
@@ -100,3 +100,8 @@ split-exact a h R =
 
     size : (x : Float) (m n : ℕ) → exact x ≡ offset (sign a) m n → magnitude x ≡ distance m n
     size x m n e = sym (exact_abs x) ∙ ap nat_abs e ∙ offset_abs (sign a) m n
+
+-- the factor, as the compiler works it out
+pub factor_is : of_bits binary64 0x41A0_0000_0200_0000 ≡ factor
+unfolding of_bits
+factor_is = refl

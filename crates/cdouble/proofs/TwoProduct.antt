@@ -172,14 +172,14 @@ zero_product a b ha hb ra rb e K =
     let fb = rb.is_finite in
     exact_of_terms a b fa fb ha hb (product_finite a b fa fb ha hb (subst (λ (n : ℕ). n < overflow binary64) (sym (rounded_zero (magnitude a * magnitude b) e)) (pow_pos 2098))) ra rb K
 
-pub two_product-exact : (a b : Float) → T (fits binary64 a) → T (fits binary64 b) → ProductRange a b → IsExact 1074 (exact a *ℤ exact b) (two_product a b)
-two_product-exact a b ha hb (inl (z, rb)) =
+pub two_product_exact : (a b : Float) → T (fits binary64 a) → T (fits binary64 b) → ProductRange a b → IsExact 1074 (exact a *ℤ exact b) (two_product a b)
+two_product_exact a b ha hb (inl (z, rb)) =
     zero_product a b ha hb (at_zero a z) rb (ap (λ (n : ℕ). n * magnitude b) z.1 ∙ zero-mul (magnitude b))
     (subst (λ (n : ℕ). Terms n (magnitude b) (nearest_units 53 1074 (n * magnitude b))) (sym z.1) (terms_zero_l (magnitude b)))
-two_product-exact a b ha hb (inr (inl (ra, z))) =
+two_product_exact a b ha hb (inr (inl (ra, z))) =
     zero_product a b ha hb ra (at_zero b z) (ap (λ (n : ℕ). magnitude a * n) z.1 ∙ mul-zero (magnitude a))
     (subst (λ (n : ℕ). Terms (magnitude a) n (nearest_units 53 1074 (magnitude a * n))) (sym z.1) (terms_zero_r (magnitude a)))
-two_product-exact a b ha hb (inr (inr R)) =
+two_product_exact a b ha hb (inr (inr R)) =
     let fa = R.first.is_finite in
     let fb = R.second.is_finite in
     let f = R.most.is_finite in

@@ -11,7 +11,8 @@ use Rattle.error_free.proofs.Knuth.{knuth}
 use Rattle.error_free.proofs.Steps.{HasExact, known, as_value, known_exactly, known_double, is_double, double_as, zero_double, in_range, add_rounded, sub_rounded, add_kept, sub_kept}
 
 -- the parts, by their exact values
-made : (a b x y : Float) (c z : ℤ) → HasExact c x → HasExact ((exact a -ℤ (c -ℤ z)) +ℤ (exact b -ℤ z)) y → c ≡ to_nearest 0 (exact a +ℤ exact b) → IsExact 0 (exact a +ℤ exact b) (record { hi = x; lo = y })
+made : (a b x y : Float) (c z : ℤ) → HasExact c x → HasExact ((exact a -ℤ (c -ℤ z)) +ℤ (exact b -ℤ z)) y
+    → c ≡ to_nearest 0 (exact a +ℤ exact b) → IsExact 0 (exact a +ℤ exact b) (record { hi = x; lo = y })
 made a b x y c z u v e = record {
   hi_finite = u.is_finite;
   lo_finite = v.is_finite;
@@ -22,9 +23,9 @@ made a b x y c z u v e = record {
     back : (a b x z : ℤ) → x *ℤ pos (2 ^ 0) +ℤ ((a -ℤ (x -ℤ z)) +ℤ (b -ℤ z)) *ℤ pos (2 ^ 0) ≡ a +ℤ b
     back = all _ λ a a'. all _ λ b b'. all _ λ x x'. all _ λ z z'. simp differences (omega arith)
 
-pub two_sum-exact : (a b : Float) → T (fits binary64 a) → T (fits binary64 b) → SumRange a b → IsExact 0 (exact a +ℤ exact b) (two_sum a b)
+pub two_sum_exact : (a b : Float) → T (fits binary64 a) → T (fits binary64 b) → SumRange a b → IsExact 0 (exact a +ℤ exact b) (two_sum a b)
 unfolding two_sum
-two_sum-exact a b ha hb R =
+two_sum_exact a b ha hb R =
     let u = known a R.0.is_finite ha in
     let v = known b R.1.is_finite hb in
     let K = knuth (2 ^ 2096) (exact a) (exact b) (known_exactly (2 ^ 2096) a R.0.is_finite ha R.0.cap) (known_exactly (2 ^ 2096) b R.1.is_finite hb R.1.cap) in

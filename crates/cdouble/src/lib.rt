@@ -32,6 +32,7 @@ impl CDouble {
     pub const COMPENSATED_ERROR: f64 = 16.0 * 4.930_380_657_631_324e-32;
 
     /// `a + b`, rounded, and what the rounding left out (Knuth's two-sum).
+    #[tactic(auto, using(doubles::proofs::Tests::fit, crate::proofs::TwoSum::two_sum_exact), unfolding(crate::specs::Compensated::two_sum))]
     pub fn two_sum(a: f64, b: f64) -> CDouble
         ensures { (result ≡ two_sum a b) × (SumRange a b → IsExact 0 (exact a +ℤ exact b) result) }
     {
@@ -42,6 +43,7 @@ impl CDouble {
     }
 
     /// `a` in two halves of at most 26 significant bits (Dekker's split).
+    #[tactic(auto, using(doubles::proofs::Tests::fit, crate::proofs::SplitParts::split_exact, crate::proofs::SplitParts::factor_is), unfolding(crate::specs::Compensated::split))]
     pub fn split(a: f64) -> CDouble
         ensures { (result ≡ split a) × (AtMost 995 a → IsSplit a result) }
     {
@@ -66,6 +68,7 @@ impl CDouble {
     }
 
     /// `self + v`.
+    #[tactic(auto, unfolding(crate::specs::Compensated::plus))]
     pub fn add(self, v: f64) -> CDouble
         ensures { result ≡ plus self v }
     {
@@ -77,6 +80,7 @@ impl CDouble {
     }
 
     /// `self + a · b`, the product taken with what its rounding left out.
+    #[tactic(auto, unfolding(crate::specs::Compensated::plus_product))]
     pub fn add_product(self, a: f64, b: f64) -> CDouble
         ensures { result ≡ plus_product self a b }
     {
@@ -89,6 +93,7 @@ impl CDouble {
     }
 
     /// `self + c · b`: the high part's product as in `add_product`, the low part's rounded.
+    #[tactic(auto, unfolding(crate::specs::Compensated::plus_scaled))]
     pub fn add_scaled(self, c: CDouble, b: f64) -> CDouble
         ensures { result ≡ plus_scaled self c b }
     {
@@ -100,6 +105,7 @@ impl CDouble {
     }
 
     /// `-self`.
+    #[tactic(auto, unfolding(crate::specs::Compensated::negated))]
     pub fn neg(self) -> CDouble
         ensures { result ≡ negated self }
     {
@@ -110,6 +116,7 @@ impl CDouble {
     }
 
     /// `self`, its high part the nearest double.
+    #[tactic(auto, unfolding(crate::specs::Compensated::normalized))]
     pub fn normalized(self) -> CDouble
         ensures { (result ≡ normalized self) × (SumRange self.hi self.lo → IsExact 0 (exact self.hi +ℤ exact self.lo) result) }
     {
@@ -128,6 +135,7 @@ impl CDouble {
     }
 
     /// The sum, rounded to nearest.
+    #[tactic(auto, unfolding(crate::specs::Compensated::value))]
     pub fn value(self) -> f64
         ensures { result ≡ value self }
     {

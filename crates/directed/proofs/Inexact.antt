@@ -1,7 +1,7 @@
 -- A sum that its rounded part does not show whole is at least two units from 0, and a sum whose first number is not −0 is not −0. Assumes nothing.
 use mathlib.Core.Path.{◌≡◌, refl, sym, ap, ◌∙◌, subst}
 use mathlib.Core.Logic.{inl, inr}
-use mathlib.Core.Bool.{Bool, true, false, true≢false}
+use mathlib.Core.Bool.{Bool, true, false, cond, true≢false}
 use Prim.Native.Nat.{ℕ, zero, suc, ◌+◌, ◌-◌, ◌^◌, ◌≤◌, ◌<◌}
 use native.Mathlib.Nat.{one-dvd}
 use native.Mathlib.Omega.{arith}
@@ -21,7 +21,7 @@ use Rattle.exact.proofs.Nearest.{nearest_ge, to_nearest_signed, to_nearest_same}
 use Rattle.exact.proofs.Operations.{by_one}
 use Rattle.exact.proofs.Signs.{minus_zero, add_minus_zero}
 use Rattle.rank_arithmetic.specs.Rank.{infinity, double}
-use Rattle.doubles.specs.Directed.{with_zero, round_up, round_down, sum_with, product_up, product_down}
+use Rattle.doubles.specs.Directed.{with_zero, round_up, round_down, sum_with, product_with}
 use Rattle.doubles.proofs.Patterns.{rank_of, pattern, ranked, finite_no_nan, double_sign}
 use Rattle.doubles.proofs.Zero.{with_zero_rank, with_zero_own}
 use Rattle.doubles.proofs.Mirror.{up_zero, down_zero}
@@ -100,13 +100,23 @@ module _ (a b : Float) (ha : T (fits binary64 a)) (hb : T (fits binary64 b)) (f 
   unfolding ne eq
   sum_tested t = not_minus_zero (a ⊕ b) f (add-fits binary64 a b) (λ e. subst (λ (x : Float). T (ne x plus_zero)) e t)
 
--- products are never −0
-module _ (a b : Float) (fa : T (finite a)) (fb : T (finite b)) where
-  pub product_up_clear : {p : Float} → p ≡ product_up a b → NotMinusZero p
-  product_up_clear e = let w = product_finite (round_up 1074) a b fa fb in ap (with_zero false) (e ∙ sym w) ∙ up_zero 1074 (exact a *ℤ exact b) ∙ w ∙ sym e
+-- ---- rounded up, or down
+abbrev pub round_to : Bool → ℕ → ℤ → Float
+round_to up l = cond up (round_up l) (round_down l)
 
-  pub product_down_clear : {p : Float} → p ≡ product_down a b → NotMinusZero p
-  product_down_clear e = let w = product_finite (round_down 1074) a b fa fb in ap (with_zero false) (e ∙ sym w) ∙ down_zero 1074 (exact a *ℤ exact b) ∙ w ∙ sym e
+abbrev pub sum_to : Bool → Float → Float → Float
+sum_to up = sum_with (round_to up 0)
+
+abbrev pub product_to : Bool → Float → Float → Float
+product_to up = product_with (round_to up 1074)
+
+pub round_clear : (up : Bool) (l : ℕ) (z : ℤ) → NotMinusZero (round_to up l z)
+round_clear true = up_zero
+round_clear false = down_zero
+
+-- products are never −0
+pub product_clear : (up : Bool) (a b : Float) → T (finite a) → T (finite b) → NotMinusZero (product_to up a b)
+product_clear up a b f g = subst NotMinusZero (product_finite (round_to up 1074) a b f g) (round_clear up 1074 (exact a *ℤ exact b))
 
 -- the order of a sum does not matter
 pub sum_turned : (rounded : ℤ → Float) (a b : Float) → T (finite a) → T (finite b) → sum_with rounded a b ≡ sum_with rounded b a

@@ -97,7 +97,8 @@ tested k x {p = p} L h t y =
     is_within k x h L.fit (and_l (le (neg (power k)) x) (le x (power k)) w) (and_r (le (neg (power k)) x) (le x (power k)) w)
 
 -- two tests joined
-pub both_tested : (k : ℕ) (x y : Float) {r s : Bool} {p : Float} → Limit k p → T (fits binary64 x) → T (fits binary64 y) → r ≡ (le (neg p) x && le x p) → s ≡ (le (neg p) y && le y p) → (r && s) ≡ true → AtMost k x × AtMost k y
+pub both_tested : (k : ℕ) (x y : Float) {r s : Bool} {p : Float} → Limit k p → T (fits binary64 x) → T (fits binary64 y)
+    → r ≡ (le (neg p) x && le x p) → s ≡ (le (neg p) y && le y p) → (r && s) ≡ true → AtMost k x × AtMost k y
 both_tested k x y {r} {s} L h g t u e = let w : T (r && s) = subst T (sym e) tt in (tested k x L h t (and_l r s w), tested k y L g u (and_r r s w))
 
 -- ---- the test `far`
@@ -128,7 +129,8 @@ far_signed true m n (inr h) = none m n h
     none : (m n : ℕ) → pos n ≼ neg_ℤ (pos m) → n ≤ m
     none m n = simp differences (λ h. omega arith)
 
-pub far_tested : (x : Float) {r : Bool} → T (finite x) → T (fits binary64 x) → r ≡ (le x (neg (of_bits binary64 0x0360_0000_0000_0000)) || le (of_bits binary64 0x0360_0000_0000_0000) x) → r ≡ true → Far x
+pub far_tested : (x : Float) {r : Bool} → T (finite x) → T (fits binary64 x)
+    → r ≡ (le x (neg (of_bits binary64 0x0360_0000_0000_0000)) || le (of_bits binary64 0x0360_0000_0000_0000) x) → r ≡ true → Far x
 unfolding fits neg
 far_tested x f h t y =
     let w : T (le x (neg least) || le least x) = subst (λ (q : Float). T (le x (neg q) || le q x)) least_is (subst T (sym y ∙ t) tt) in

@@ -1,11 +1,11 @@
 -- Of a sum or product that is exact as a pair, the high part or its neighbour is the number rounded outward: both are least, or greatest. Assumes nothing.
 use mathlib.Core.Path.{◌≡◌, refl, sym, ap, ◌∙◌, subst}
 use mathlib.Core.Logic.{inr}
-use mathlib.Core.Bool.{Bool, true, false, not, cond, beq}
+use mathlib.Core.Bool.{Bool, true, false, not, cond, beq, ◌||◌}
 use Prim.Native.Nat.{ℕ, ◌+◌, ◌-◌, ◌^◌, ◌<◌}
 use lib.IntN.{ℤ, pos, ◌+ℤ◌, ◌*ℤ◌}
 use lib.Dec.{T, ltb}
-use lib.Ieee.{Float, binary64, fits, to_bits, of_bits, nan_bits}
+use lib.Ieee.{Float, binary64, fits, to_bits, of_bits, nan_bits, le, neg}
 use lib.Ieee.Fits.{add-fits, sub-fits, mul-fits}
 use lib.Ieee.Scale.{finite}
 use Rattle.exact.specs.Value.{exact}
@@ -20,11 +20,11 @@ use Rattle.cdouble.specs.declared.CDouble.{CDouble}
 use Rattle.cdouble.specs.Compensated.{◌⊕◌, ◌⊗◌, plus_zero, two_sum, two_product, product_error, upper, lower}
 use Rattle.cdouble.specs.Exactness.{SumRange, AtMost, InRange, IsExact}
 use Rattle.cdouble.proofs.RoundedUp.{upper_least, lower_greatest, exact-zero, zero-fits}
-use Rattle.cdouble.proofs.TwoSum.{two_sum-exact}
-use Rattle.cdouble.proofs.TwoProduct.{two_product-exact}
+use Rattle.cdouble.proofs.TwoSum.{two_sum_exact}
+use Rattle.cdouble.proofs.TwoProduct.{two_product_exact}
 use Rattle.directed.specs.Far.{Far, Clear, NotMinusZero, past}
 use Rattle.directed.proofs.Inexact.{inexact_large, far_clear, far-zero}
-use Rattle.directed.proofs.Limits.{in_range, product_at_most}
+use Rattle.directed.proofs.Limits.{in_range, product_at_most, far_tested}
 use Rattle.directed.proofs.Neighbour.{neighbour, stepped_no_zero, stepped_pattern, within_words}
 
 -- ---- the pair's high part or its neighbour, up or down
@@ -61,7 +61,7 @@ module _ (a b : Float) (ha : T (fits binary64 a)) (hb : T (fits binary64 b)) (R 
   pair = two_sum a b
 
   exactly : IsExact 0 (exact a +ℤ exact b) pair
-  exactly = two_sum-exact a b ha hb R.0
+  exactly = two_sum_exact a b ha hb R.0
 
   lo_fits : T (fits binary64 pair.lo)
   unfolding two_sum
@@ -99,7 +99,8 @@ module _ (a b : Float) (ha : T (fits binary64 a)) (hb : T (fits binary64 b)) (ra
   product_end : (up : Bool) → Far (two_product a b).hi → end up (two_product a b) ≡ cond up (product_up a b) (product_down a b)
   unfolding two_product product_error
   product_end up F =
-      end_rounded 1074 (exact a *ℤ exact b) (two_product a b) (mul-fits binary64 a b) (sub-fits binary64 _ _) (two_product-exact a b ha hb (inr (inr (range F)))) (far-zero (a ⊗ b) (mul-fits binary64 a b) F) up
+      end_rounded 1074 (exact a *ℤ exact b) (two_product a b) (mul-fits binary64 a b) (sub-fits binary64 _ _)
+      (two_product_exact a b ha hb (inr (inr (range F)))) (far-zero (a ⊗ b) (mul-fits binary64 a b) F) up
       (far_clear F (past up (two_product a b).lo))
       ∙ go up
     where
@@ -110,10 +111,15 @@ module _ (a b : Float) (ha : T (fits binary64 a)) (hb : T (fits binary64 b)) (ra
   pub product_is : (up : Bool) (c : CDouble) → c ≡ two_product a b → Far c.hi → end up c ≡ cond up (product_up a b) (product_down a b)
   product_is up c e F = ap (end up) e ∙ product_end up (subst (λ (d : CDouble). Far d.hi) e F)
 
-  pub product_fits : (c : CDouble) → c ≡ two_product a b → T (fits binary64 c.hi)
+  product_fits : (c : CDouble) → c ≡ two_product a b → T (fits binary64 c.hi)
   unfolding two_product
   product_fits c e = subst (λ (d : CDouble). T (fits binary64 d.hi)) (sym e) (mul-fits binary64 a b)
 
-  pub product_finite_hi : (c : CDouble) → c ≡ two_product a b → T (finite c.hi)
+  product_finite_hi : (c : CDouble) → c ≡ two_product a b → T (finite c.hi)
   unfolding two_product
   product_finite_hi c e = subst (λ (d : CDouble). T (finite d.hi)) (sym e) (product_at_most a b ha hb ra rb).is_finite
+
+  -- the test `far` of its high part
+  pub product_far : (c : CDouble) {r : Bool} → c ≡ two_product a b
+      → r ≡ (le c.hi (neg (of_bits binary64 0x0360_0000_0000_0000)) || le (of_bits binary64 0x0360_0000_0000_0000) c.hi) → r ≡ true → Far c.hi
+  product_far c e = far_tested c.hi (product_finite_hi c e) (product_fits c e)

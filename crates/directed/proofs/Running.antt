@@ -1,4 +1,4 @@
--- Running sums with products: how large they come out, and that a factor of 0 adds nothing. Assumes nothing.
+-- Running sums with products, rounded up or down: how large they come out, and that a factor of 0 adds nothing. Assumes nothing.
 use mathlib.Core.Path.{◌≡◌, sym, ap, ap₂, ◌∙◌, subst}
 use mathlib.Core.Bool.{Bool, true, false, ◌&&◌}
 use Prim.Native.Nat.{◌^◌}
@@ -11,32 +11,40 @@ use lib.Ieee.Scale.{finite}
 use Rattle.exact.specs.Value.{exact}
 use Rattle.exact.proofs.Compare.{eq_exact}
 use Rattle.exact.proofs.Difference.{all, differences}
-use Rattle.doubles.specs.Directed.{with_zero, round_up, round_down, sum_up, sum_down, product_up, product_down}
-use Rattle.doubles.proofs.Mirror.{up_zero, down_zero}
+use Rattle.doubles.specs.Directed.{with_zero}
 use Rattle.doubles.proofs.Bounding.{sum-finite}
 use Rattle.doubles.proofs.Ends.{sum_up_law, sum_down_law, product_up_law, product_down_law, sum_same, product_same}
 use Rattle.cdouble.specs.Compensated.{◌⊕◌, plus_zero, two_sum}
 use Rattle.cdouble.specs.Exactness.{AtMost, SumRange}
 use Rattle.cdouble.proofs.RoundedUp.{exact-zero, zero-fits}
-use Rattle.cdouble.proofs.TwoSum.{two_sum-exact}
+use Rattle.cdouble.proofs.TwoSum.{two_sum_exact}
 use Rattle.directed.specs.Far.{NotMinusZero}
-use Rattle.directed.proofs.Inexact.{sum_first, sum_tested, sum_turned, product_up_clear, product_down_clear}
+use Rattle.directed.proofs.Inexact.{round_to, sum_to, product_to, round_clear, product_clear, sum_first, sum_tested, sum_turned}
 use Rattle.directed.proofs.Limits.{Limit, tested, weaker, up_at_most, down_at_most, sum_between, product_between}
 
--- ---- how large
-module _ (a b : Float) (ra : AtMost 510 a) (rb : AtMost 510 b) where
-  product_up_most : AtMost 1020 (product_up a b)
-  unfolding fits
-  product_up_most = up_at_most 1074 1020 (exact a *ℤ exact b) (product_up a b) tt (product_between 510 510 a b ra rb) (product_up_law a b ra.is_finite rb.is_finite)
+-- ---- how large, in either direction
+product_fits : (up : Bool) (a b : Float) → T (finite a) → T (finite b) → T (fits binary64 (product_to up a b))
+product_fits true a b f g = (product_up_law a b f g).fit
+product_fits false a b f g = (product_down_law a b f g).fit
 
-  product_down_most : AtMost 1020 (product_down a b)
-  unfolding fits
-  product_down_most = down_at_most 1074 1020 (exact a *ℤ exact b) (product_down a b) tt (product_between 510 510 a b ra rb) (product_down_law a b ra.is_finite rb.is_finite)
+product_most : (up : Bool) (a b : Float) → AtMost 510 a → AtMost 510 b → AtMost 1020 (product_to up a b)
+unfolding fits
+product_most true a b ra rb = up_at_most 1074 1020 (exact a *ℤ exact b) (product_to true a b) tt (product_between 510 510 a b ra rb) (product_up_law a b ra.is_finite rb.is_finite)
+product_most false a b ra rb = down_at_most 1074 1020 (exact a *ℤ exact b) (product_to false a b) tt (product_between 510 510 a b ra rb) (product_down_law a b ra.is_finite rb.is_finite)
+
+sum_fits : (up : Bool) (a b : Float) → T (finite a) → T (finite b) → T (fits binary64 (sum_to up a b))
+sum_fits true a b f g = (sum_up_law a b f g).fit
+sum_fits false a b f g = (sum_down_law a b f g).fit
+
+sum_most : (up : Bool) (a b : Float) → AtMost 1020 a → AtMost 1020 b → AtMost 1021 (sum_to up a b)
+unfolding fits
+sum_most true a b ra rb = up_at_most 0 1021 (exact a +ℤ exact b) (sum_to true a b) tt (sum_between 1020 a b ra rb) (sum_up_law a b ra.is_finite rb.is_finite)
+sum_most false a b ra rb = down_at_most 0 1021 (exact a +ℤ exact b) (sum_to false a b) tt (sum_between 1020 a b ra rb) (sum_down_law a b ra.is_finite rb.is_finite)
 
 -- a product with a running sum
 product_first : (p c : Float) → T (fits binary64 p) → T (fits binary64 c) → NotMinusZero p → SumRange p c → SumRange p c × NotMinusZero (p ⊕ c)
 unfolding two_sum
-product_first p c hp hc n R = (R, sum_first p c hp hc (two_sum-exact p c hp hc R).hi_finite n)
+product_first p c hp hc n R = (R, sum_first p c hp hc (two_sum_exact p c hp hc R).hi_finite n)
 
 -- two numbers whose sum is tested not to be 0
 pub sum_ready : (a b : Float) {r s : Bool} {p : Float} → Limit 1022 p → T (fits binary64 a) → T (fits binary64 b) → r ≡ (le (neg p) a && le a p) → s ≡ (le (neg p) b && le b p)
@@ -46,89 +54,80 @@ sum_ready a b {r} {s} L ha hb t u e =
     let w : T ((r && s) && ne (a ⊕ b) plus_zero) = subst T (sym e) tt in
     let y = and_l (r && s) (ne (a ⊕ b) plus_zero) w in
     let R : SumRange a b = (tested 1022 a L ha t (and_l r s y), tested 1022 b L hb u (and_r r s y)) in
-    (R, sum_tested a b ha hb (two_sum-exact a b ha hb R).hi_finite (and_r (r && s) (ne (a ⊕ b) plus_zero) w))
+    (R, sum_tested a b ha hb (two_sum_exact a b ha hb R).hi_finite (and_r (r && s) (ne (a ⊕ b) plus_zero) w))
+
+-- ---- a number d that is 0, in a product and in a sum
+module _ (d : Float) (f : T (finite d)) (hd : T (fits binary64 d)) (z : eq d plus_zero ≡ true) where
+  none_exact : (v : ℤ) → exact d *ℤ v ≡ exact plus_zero *ℤ pos (2 ^ 1074)
+  none_exact v = ap (λ (w : ℤ). w *ℤ v) (is ∙ exact-zero) ∙ none v (pos (2 ^ 1074)) ∙ sym (ap (λ (w : ℤ). w *ℤ pos (2 ^ 1074)) exact-zero)
+    where
+      is : exact d ≡ exact plus_zero
+      is = (eq_exact d plus_zero f tt hd zero-fits).0 (subst T (sym z) tt)
+
+      none : (v w : ℤ) → pos 0 *ℤ v ≡ pos 0 *ℤ w
+      none = all _ λ v v'. all _ λ w w'. simp differences (omega arith)
+
+  product_zero : (up : Bool) (b : Float) → T (finite b) → product_to up d b ≡ plus_zero
+  product_zero true b g = (product_same d b f g plus_zero tt zero-fits (none_exact (exact b))).0
+  product_zero false b g = (product_same d b f g plus_zero tt zero-fits (none_exact (exact b))).1
+
+zero_more : (t : Float) → exact t +ℤ exact plus_zero ≡ exact t
+zero_more t = ap (λ (w : ℤ). exact t +ℤ w) exact-zero ∙ +ℤ_idr (exact t)
+
+sum_zero : (up : Bool) (t : Float) → T (finite t) → T (fits binary64 t) → sum_to up t plus_zero ≡ with_zero false t
+sum_zero true t f h = (sum_same t plus_zero f tt t f h (zero_more t)).0
+sum_zero false t f h = (sum_same t plus_zero f tt t f h (zero_more t)).1
 
 -- the first sum of a running sum c
-module _ (c a b : Float) (rc : AtMost 1020 c) (ra : AtMost 510 a) (rb : AtMost 510 b) where
-  pub first_up : T (fits binary64 c) → {p : Float} → p ≡ product_up a b → SumRange p c × NotMinusZero (p ⊕ c)
-  first_up hc {p} e = product_first p c (subst (λ (x : Float). T (fits binary64 x)) (sym e) (product_up_law a b ra.is_finite rb.is_finite).fit) hc (product_up_clear a b ra.is_finite rb.is_finite e)
-      (subst (AtMost 1022) (sym e) (weaker 1020 1022 (product_up a b) (omega arith) (product_up_most a b ra rb)), weaker 1020 1022 c (omega arith) rc)
+module _ (up : Bool) (c a b : Float) (rc : AtMost 1020 c) (ra : AtMost 510 a) (rb : AtMost 510 b) where
+  abbrev product : Float
+  product = product_to up a b
 
-  pub turned_up : {s p : Float} → s ≡ sum_up p c → p ≡ product_up a b → s ≡ sum_up c p
-  turned_up {s} {p} e f = e ∙ sum_turned (round_up 0) p c (subst (λ (x : Float). T (finite x)) (sym f) (product_up_most a b ra rb).is_finite) rc.is_finite
+  abbrev sum : Float
+  sum = sum_to up c product
 
-  pub first_down : T (fits binary64 c) → {p : Float} → p ≡ product_down a b → SumRange p c × NotMinusZero (p ⊕ c)
-  first_down hc {p} e = product_first p c (subst (λ (x : Float). T (fits binary64 x)) (sym e) (product_down_law a b ra.is_finite rb.is_finite).fit) hc (product_down_clear a b ra.is_finite rb.is_finite e)
-      (subst (AtMost 1022) (sym e) (weaker 1020 1022 (product_down a b) (omega arith) (product_down_most a b ra rb)), weaker 1020 1022 c (omega arith) rc)
+  most : AtMost 1020 product
+  most = product_most up a b ra rb
 
-  pub turned_down : {s p : Float} → s ≡ sum_down p c → p ≡ product_down a b → s ≡ sum_down c p
-  turned_down {s} {p} e f = e ∙ sum_turned (round_down 0) p c (subst (λ (x : Float). T (finite x)) (sym f) (product_down_most a b ra rb).is_finite) rc.is_finite
+  sum_at_most : AtMost 1021 sum
+  sum_at_most = sum_most up c product rc most
 
-  sum_up_most : AtMost 1021 (sum_up c (product_up a b))
-  unfolding fits
-  sum_up_most = let p = product_up_most a b ra rb in up_at_most 0 1021 (exact c +ℤ exact (product_up a b)) (sum_up c (product_up a b)) tt (sum_between 1020 c (product_up a b) rc p) (sum_up_law c (product_up a b) rc.is_finite p.is_finite)
+  fit : T (fits binary64 sum)
+  fit = sum_fits up c product rc.is_finite most.is_finite
 
-  sum_down_most : AtMost 1021 (sum_down c (product_down a b))
-  unfolding fits
-  sum_down_most = let p = product_down_most a b ra rb in down_at_most 0 1021 (exact c +ℤ exact (product_down a b)) (sum_down c (product_down a b)) tt (sum_between 1020 c (product_down a b) rc p) (sum_down_law c (product_down a b) rc.is_finite p.is_finite)
+  pub first : T (fits binary64 c) → {p : Float} → p ≡ product → SumRange p c × NotMinusZero (p ⊕ c)
+  first hc e = subst (λ (p : Float). SumRange p c × NotMinusZero (p ⊕ c)) (sym e)
+      (product_first product c (product_fits up a b ra.is_finite rb.is_finite) hc (product_clear up a b ra.is_finite rb.is_finite)
+      (weaker 1020 1022 product (omega arith) most, weaker 1020 1022 c (omega arith) rc))
+
+  turned : {s p : Float} → s ≡ sum_to up p c → p ≡ product → s ≡ sum
+  turned e f = e ∙ ap (λ (p : Float). sum_to up p c) f ∙ sum_turned (round_to up 0) product c most.is_finite rc.is_finite
 
   -- ---- a second product, of d
   module _ (d : Float) (rd : AtMost 510 d) where
-    pub second_up : {s p q : Float} → s ≡ sum_up p c → p ≡ product_up a b → q ≡ product_up d b → SumRange q s × NotMinusZero (q ⊕ s)
-    second_up {s} {p} {q} e f g =
-        let is = sym (turned_up e f ∙ ap (sum_up c) f) in
-        product_first q s (subst (λ (x : Float). T (fits binary64 x)) (sym g) (product_up_law d b rd.is_finite rb.is_finite).fit) (subst (λ (x : Float). T (fits binary64 x)) is (sum_up_law c (product_up a b) rc.is_finite (product_up_most a b ra rb).is_finite).fit)
-        (product_up_clear d b rd.is_finite rb.is_finite g)
-        (subst (AtMost 1022) (sym g) (weaker 1020 1022 (product_up d b) (omega arith) (product_up_most d b rd rb)), subst (AtMost 1022) is (weaker 1021 1022 (sum_up c (product_up a b)) (omega arith) sum_up_most))
+    abbrev second_product : Float
+    second_product = product_to up d b
 
-    pub last_up : {r s p q : Float} → r ≡ sum_up q s → s ≡ sum_up p c → p ≡ product_up a b → q ≡ product_up d b → r ≡ sum_up (sum_up c (product_up a b)) (product_up d b)
-    last_up {r} {s} {p} {q} h e f g =
-        let R = (second_up e f g).0 in
-        h ∙ sum_turned (round_up 0) q s R.0.is_finite R.1.is_finite ∙ ap₂ sum_up (turned_up e f ∙ ap (sum_up c) f) g
+    added : SumRange second_product sum × NotMinusZero (second_product ⊕ sum)
+    added = product_first second_product sum (product_fits up d b rd.is_finite rb.is_finite) fit (product_clear up d b rd.is_finite rb.is_finite)
+        (weaker 1020 1022 second_product (omega arith) (product_most up d b rd rb), weaker 1021 1022 sum (omega arith) sum_at_most)
 
-    pub second_down : {s p q : Float} → s ≡ sum_down p c → p ≡ product_down a b → q ≡ product_down d b → SumRange q s × NotMinusZero (q ⊕ s)
-    second_down {s} {p} {q} e f g =
-        let is = sym (turned_down e f ∙ ap (sum_down c) f) in
-        product_first q s (subst (λ (x : Float). T (fits binary64 x)) (sym g) (product_down_law d b rd.is_finite rb.is_finite).fit) (subst (λ (x : Float). T (fits binary64 x)) is (sum_down_law c (product_down a b) rc.is_finite (product_down_most a b ra rb).is_finite).fit)
-        (product_down_clear d b rd.is_finite rb.is_finite g)
-        (subst (AtMost 1022) (sym g) (weaker 1020 1022 (product_down d b) (omega arith) (product_down_most d b rd rb)), subst (AtMost 1022) is (weaker 1021 1022 (sum_down c (product_down a b)) (omega arith) sum_down_most))
+    pub second : {s p q : Float} → s ≡ sum_to up p c → p ≡ product → q ≡ second_product → SumRange q s × NotMinusZero (q ⊕ s)
+    second {s} {q = q} e f g = subst (λ (x : Float). SumRange x s × NotMinusZero (x ⊕ s)) (sym g)
+        (subst (λ (x : Float). SumRange second_product x × NotMinusZero (second_product ⊕ x)) (sym (turned e f)) added)
 
-    pub last_down : {r s p q : Float} → r ≡ sum_down q s → s ≡ sum_down p c → p ≡ product_down a b → q ≡ product_down d b → r ≡ sum_down (sum_down c (product_down a b)) (product_down d b)
-    last_down {r} {s} {p} {q} h e f g =
-        let R = (second_down e f g).0 in
-        h ∙ sum_turned (round_down 0) q s R.0.is_finite R.1.is_finite ∙ ap₂ sum_down (turned_down e f ∙ ap (sum_down c) f) g
+    pub last : {r s p q : Float} → r ≡ sum_to up q s → s ≡ sum_to up p c → p ≡ product → q ≡ second_product → r ≡ sum_to up sum second_product
+    last h e f g = h ∙ ap₂ (sum_to up) g (turned e f) ∙ sum_turned (round_to up 0) second_product sum added.0.0.is_finite sum_at_most.is_finite
 
     -- ---- where d is 0
-    module _ (hd : T (fits binary64 d)) (z : eq d plus_zero ≡ true) where
-      product_zero : (product_up d b ≡ plus_zero) × (product_down d b ≡ plus_zero)
-      product_zero = product_same d b rd.is_finite rb.is_finite plus_zero tt zero-fits (ap (λ (w : ℤ). w *ℤ exact b) (is ∙ exact-zero) ∙ none (exact b) (pos (2 ^ 1074)) ∙ sym (ap (λ (w : ℤ). w *ℤ pos (2 ^ 1074)) exact-zero))
-        where
-          is : exact d ≡ exact plus_zero
-          is = (eq_exact d plus_zero rd.is_finite tt hd zero-fits).0 (subst T (sym z) tt)
-
-          none : (v w : ℤ) → pos 0 *ℤ v ≡ pos 0 *ℤ w
-          none = all _ λ v v'. all _ λ w w'. simp differences (omega arith)
-
-      zero_more : (s : Float) → exact s +ℤ exact plus_zero ≡ exact s
-      zero_more s = ap (λ (w : ℤ). exact s +ℤ w) exact-zero ∙ +ℤ_idr (exact s)
-
-      pub nothing_up : {s p : Float} → s ≡ sum_up p c → p ≡ product_up a b → s ≡ sum_up (sum_up c (product_up a b)) (product_up d b)
-      nothing_up {s} {p} e f =
-          let t = sum_up c (product_up a b) in
-          let q = product_up_most a b ra rb in
-          let r = sum_up_most.is_finite in
-          let U = sum_up_law c (product_up a b) rc.is_finite q.is_finite in
-          let fin = sum-finite (round_up 0) c (product_up a b) rc.is_finite q.is_finite in
-          turned_up e f ∙ ap (sum_up c) f ∙ sym ((sum_same t plus_zero r tt t r U.fit (zero_more t)).0 ∙ ap (with_zero false) (sym fin) ∙ up_zero 0 (exact c +ℤ exact (product_up a b)) ∙ fin) ∙ ap (sum_up t) (sym product_zero.0)
-
-      pub nothing_down : {s p : Float} → s ≡ sum_down p c → p ≡ product_down a b → s ≡ sum_down (sum_down c (product_down a b)) (product_down d b)
-      nothing_down {s} {p} e f =
-          let t = sum_down c (product_down a b) in
-          let q = product_down_most a b ra rb in
-          let r = sum_down_most.is_finite in
-          let D = sum_down_law c (product_down a b) rc.is_finite q.is_finite in
-          let fin = sum-finite (round_down 0) c (product_down a b) rc.is_finite q.is_finite in
-          turned_down e f ∙ ap (sum_down c) f ∙ sym ((sum_same t plus_zero r tt t r D.fit (zero_more t)).1 ∙ ap (with_zero false) (sym fin) ∙ down_zero 0 (exact c +ℤ exact (product_down a b)) ∙ fin) ∙ ap (sum_down t) (sym product_zero.1)
+    pub nothing : T (fits binary64 d) → eq d plus_zero ≡ true → {s p : Float} → s ≡ sum_to up p c → p ≡ product → s ≡ sum_to up sum second_product
+    nothing hd z e f =
+        turned e f
+        ∙ sym (sum_zero up sum sum_at_most.is_finite fit ∙ clear)
+        ∙ ap (sum_to up sum) (sym (product_zero d rd.is_finite hd z up b rb.is_finite))
+      where
+        clear : NotMinusZero sum
+        clear = subst NotMinusZero (sum-finite (round_to up 0) c product rc.is_finite most.is_finite) (round_clear up 0 (exact c +ℤ exact product))
 
 -- ---- five tests joined
 pub all_five : (p q r s t : Bool) → ((((p && q) && r) && s) && t) ≡ true → T p × T q × T r × T s × T t

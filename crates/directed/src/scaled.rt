@@ -11,6 +11,8 @@ use crate::sums::{near_sum, rounded_sum};
 use cdouble::CDouble;
 use rank_arithmetic::Bounds;
 
+// Kept: `near_sums` and `rounded_sums` as one function would take the sums of both ends as closures, and a `requires` of each; only the frame is common.
+
 /// `a + b` to both sides, in the range of `two_sum`.
 fn near_sums(a: Bounds<f64>, b: Bounds<f64>) -> Bounds<f64>
     requires { (SumRange a.down b.down × NotMinusZero (a.down ⊕ b.down)) × (SumRange a.up b.up × NotMinusZero (a.up ⊕ b.up)) }

@@ -51,6 +51,8 @@ fn less(a: f64, b: f64) -> bool
     }
 }
 
+// Kept: `max` and `min` have a line each over one `less`; as one function by a const parameter both lines would stand in it, and no caller would say the Rust's name.
+
 /// The larger of `a` and `b`: with one NaN the other, of two equal ones the first.
 #[tactic(auto, unfolding(doubles::specs::Compare::larger))]
 pub fn max(a: f64, b: f64) -> f64

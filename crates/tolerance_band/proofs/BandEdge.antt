@@ -147,7 +147,8 @@ start_fits bound tol true = add-fits binary64 bound tol
 start_fits bound tol false = sub-fits binary64 bound tol
 
 -- the start is the sum rounded, either way
-start_nearest : (bound tol : Float) (up : Bool) → T (finite bound) → T (finite tol) → T (fits binary64 bound) → T (fits binary64 tol) → IsNearest 0 (exact (facing up bound) +ℤ exact tol) (facing up (band_start bound tol up))
+start_nearest : (bound tol : Float) (up : Bool) → T (finite bound) → T (finite tol) → T (fits binary64 bound) → T (fits binary64 tol)
+    → IsNearest 0 (exact (facing up bound) +ℤ exact tol) (facing up (band_start bound tol up))
 unfolding band_start
 start_nearest bound tol true fb ft hb ht = add_nearest bound tol fb ft hb ht
 start_nearest bound tol false fb ft hb ht =
@@ -200,7 +201,8 @@ module _ (bound tol : Float) (up : Bool) where
   no_step e o f = subst (IsBandEdge bound tol up) (sym (settled bound tol up start e 1)) (record { ends = λ n. settled bound tol up start e _; outer = o; keeps_finite = f })
 
   -- after one step
-  one_step : too_far bound tol start ≡ true → too_far bound tol (step_back up start) ≡ false → Outer bound up (step_back up start) → T (finite (step_back up start)) → IsBandEdge bound tol up (band_edge bound tol up)
+  one_step : too_far bound tol start ≡ true → too_far bound tol (step_back up start) ≡ false → Outer bound up (step_back up start) → T (finite (step_back up start))
+      → IsBandEdge bound tol up (band_edge bound tol up)
   unfolding band_edge
   one_step e e' o f = subst (IsBandEdge bound tol up) (sym (after 0)) (record { ends = after; outer = o; keeps_finite = λ t. f })
     where

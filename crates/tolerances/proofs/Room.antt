@@ -121,7 +121,8 @@ module _ (tol magnitude : Float) (ft : T (finite tol)) (ht : T (fits binary64 to
       let h = row_tolerance-fits tol magnitude ht in
       let c = row_tolerance_clear tol magnitude ct cm in
       let H : Part row (half ⊗ row) = multiple row f h half tt constants_fit.1 (exact_clear half refl) half_most (exact_clear row c) in
-      let M : Part row (slack_margin tol magnitude terms) = smaller-part row (half ⊗ row) H (mul_clear half row refl c) ((as_f64 terms ⊕ two) ⊗ unit_roundoff ⊗ magnitude) (mul-fits binary64 _ magnitude) (mul_clear ((as_f64 terms ⊕ two) ⊗ unit_roundoff) magnitude (roundoff_clear terms) cm) in
+      let M : Part row (slack_margin tol magnitude terms) = smaller-part row (half ⊗ row) H (mul_clear half row refl c)
+      ((as_f64 terms ⊕ two) ⊗ unit_roundoff ⊗ magnitude) (mul-fits binary64 _ magnitude) (mul_clear ((as_f64 terms ⊕ two) ⊗ unit_roundoff) magnitude (roundoff_clear terms) cm) in
       let d = slack_tol tol magnitude terms ⊖ slack_margin tol magnitude terms in
       let g : T (finite d) = apart row f h (slack_tol tol magnitude terms) (slack_margin tol magnitude terms) (rest row f h (slack_margin tol magnitude terms) M) M in
       (larger-finite d plus_zero g tt, (larger_most d plus_zero (finite_no_nan d g) tt (sub-fits binary64 _ _) zero-fits).1)

@@ -33,6 +33,7 @@ impl BoundTols {
 }
 
 /// What a quantity of magnitude `magnitude` is held to under the absolute tolerance `tol`.
+#[tactic(auto, using(crate::proofs::Literals::floor_is), unfolding(crate::specs::Tolerances::row_tolerance))]
 pub fn row_tolerance(tol: f64, magnitude: f64) -> f64
     ensures { result ≡ row_tolerance tol magnitude }
 {
@@ -40,6 +41,7 @@ pub fn row_tolerance(tol: f64, magnitude: f64) -> f64
 }
 
 /// What `slack_tol` takes off for the round-off of evaluating a row of `terms` terms.
+#[tactic(auto, using(crate::proofs::Literals::unit_is, crate::proofs::Literals::half_is, cdouble::proofs::Contracts::two_is), unfolding(crate::specs::Tolerances::slack_margin))]
 pub fn slack_margin(tol: f64, magnitude: f64, terms: usize) -> f64
     ensures { result ≡ slack_margin tol magnitude terms }
 {
@@ -67,6 +69,7 @@ pub fn trimmed_room(tol: f64, magnitude: f64, terms: usize) -> f64
 }
 
 /// A bound on the error of a row's compensated sum, at a slack of magnitude `slack`.
+#[tactic(auto, using(crate::proofs::Literals::unit_is, cdouble::proofs::Contracts::two_is, crate::proofs::Literals::four_is), unfolding(crate::specs::Tolerances::implied_slack_error))]
 pub fn implied_slack_error(slack: f64, magnitude: f64, terms: usize) -> f64
     ensures { result ≡ implied_slack_error slack magnitude terms }
 {

@@ -35,6 +35,7 @@ pub fn mul_up(a: f64, b: f64) -> f64
 }
 
 /// `|a - b|`, rounded up.
+#[tactic(auto, using(doubles::proofs::Tests::fit, cdouble::proofs::Consequences::distance_up_least), unfolding(cdouble::specs::Compensated::distance_up))]
 pub fn distance_up(a: f64, b: f64) -> f64
     ensures { (result ≡ distance_up a b) × (SumRange a b → IsUp 0 (abs_ℤ (exact a -ℤ exact b)) result) }
 {

@@ -27,7 +27,8 @@ answers : (c : lts.After-abs tie.the-claims reads.Pre reads.Post) {r : Float} �
     → (r ≡ band_edge c.args.bound c.args.tol c.args.up) × (T (finite c.args.bound) → T (le plus_zero c.args.tol) → IsBandEdge c.args.bound c.args.tol c.args.up r)
 answers c {r} k =
     let is : r ≡ band_edge c.args.bound c.args.tol c.args.up = band_edge_is c.args.bound c.args.tol c.args.up (starts c.before) c.abs.ensures k in
-    (is, λ f o. subst (IsBandEdge c.args.bound c.args.tol c.args.up) (sym is) (band_edge_law c.args.bound c.args.tol c.args.up (fit c.args.bound c.well_formed.0.1) (fit c.args.tol c.well_formed.1.0.1) f o))
+    let law = band_edge_law c.args.bound c.args.tol c.args.up (fit c.args.bound c.well_formed.0.1) (fit c.args.tol c.well_formed.1.0.1) in
+    (is, λ f o. subst (IsBandEdge c.args.bound c.args.tol c.args.up) (sym is) (law f o))
 
 pub returns-then-up-2 : goal.returns-then-up-2
 unfolding step_back

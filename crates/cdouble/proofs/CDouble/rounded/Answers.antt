@@ -5,7 +5,7 @@ use Rattle.exact.specs.Value.{exact}
 use Rattle.doubles.proofs.Tests.{fit}
 use Rattle.cdouble.specs.Compensated.{lower, normalized, rounded, upper}
 use Rattle.cdouble.specs.Exactness.{SumRange, IsToward}
-use Rattle.cdouble.proofs.Consequences.{normalized-exact, rounded_toward}
+use Rattle.cdouble.proofs.Consequences.{normalized_exact, rounded_toward}
 use Rattle.cdouble.proofs.Contracts.{carried, differ, not_true, rounded_stays, when_false, when_true}
 use Rattle.cdouble.proofs.CDouble.rounded.Goals as goal
 use Rattle.cdouble.proofs.CDouble.rounded.Goals.{else-up-via-then-up+else-error, else-up-via-else-up, else-not-up-via-then-not-up+else-error-2, else-not-up-via-else-not-up}
@@ -14,18 +14,24 @@ use Rattle.cdouble.proofs.CDouble.rounded.Reads as reads
 use Rattle.cdouble.proofs.CDouble.rounded.Tie as tie
 
 -- what is equal to the definition has its law
-toward : (c : lts.Start tie.the-claims reads.Pre reads.Post) {r : Float} → r ≡ rounded c.args.self c.args.up → (r ≡ rounded c.args.self c.args.up) × (SumRange c.args.self.hi c.args.self.lo → IsToward c.args.up 0 (exact c.args.self.hi +ℤ exact c.args.self.lo) r)
+toward : (c : lts.Start tie.the-claims reads.Pre reads.Post) {r : Float} → let p = c.args.self in
+    r ≡ rounded p c.args.up → (r ≡ rounded p c.args.up) × (SumRange p.hi p.lo → IsToward c.args.up 0 (exact p.hi +ℤ exact p.lo) r)
 toward c e =
-    let z = exact c.args.self.hi +ℤ exact c.args.self.lo in
-    carried (IsToward c.args.up 0 z) e (λ R. rounded_toward c.args.self c.args.up z (normalized-exact c.args.self (fit c.args.self.hi c.well_formed.0.1.1.0.1) (fit c.args.self.lo c.well_formed.0.1.1.1.0.1) R))
+    let p = c.args.self in
+    let z = exact p.hi +ℤ exact p.lo in
+    let law = λ (R : SumRange p.hi p.lo). rounded_toward p c.args.up z (normalized_exact p (fit p.hi c.well_formed.0.1.1.0.1) (fit p.lo c.well_formed.0.1.1.1.0.1) R) in
+    carried (IsToward c.args.up 0 z) e law
 
 pub returns-then-error : goal.returns-then-error
 unfolding rounded upper lower normalized of_bits
-returns-then-error c = toward c.before.before.before.before (when_true (lower (normalized c.args.self)) (when_true c.two_sum-s.result.hi c.next_up.ensures c.if-error.true ∙ ap upper c.two_sum-s.ensures.0) c.if-up.true)
+returns-then-error c = toward c.before.before.before.before
+    (when_true (lower (normalized c.args.self)) (when_true c.two_sum-s.result.hi c.next_up.ensures c.if-error.true ∙ ap upper c.two_sum-s.ensures.0) c.if-up.true)
 
 pub returns-then-error-2 : goal.returns-then-error-2
 unfolding rounded upper lower normalized of_bits
-returns-then-error-2 c = toward c.before.before.before.before.before (when_false (upper (normalized c.args.self)) (when_true c.two_sum-s.result.hi c.next_down.ensures c.if-error-2.true ∙ ap lower c.two_sum-s.ensures.0) (not_true c.args.up (ap not c.if-not-up.true)))
+returns-then-error-2 c = toward c.before.before.before.before.before
+    (when_false (upper (normalized c.args.self)) (when_true c.two_sum-s.result.hi c.next_down.ensures c.if-error-2.true ∙ ap lower c.two_sum-s.ensures.0)
+    (not_true c.args.up (ap not c.if-not-up.true)))
 
 pub returns-else-not-up : goal.returns-else-not-up
 unfolding normalized of_bits
