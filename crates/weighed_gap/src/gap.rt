@@ -84,6 +84,7 @@ fn weighed_apart(sum: CDouble, gap: f64, others: f64, leaving_room: f64, cut: f6
 }
 
 /// Whether the gap is above every room and the round-off of its sums, and what it is weighed against.
+#[tactic(auto, unfolding(crate::specs::Gap::gap_of, crate::specs::Gap::weigh))]
 pub fn weigh(sum: GapSum, others: f64, leaving_room: f64, cut: f64) -> Weight
     ensures { result ≡ weigh sum others leaving_room cut }
 {
@@ -92,6 +93,6 @@ pub fn weigh(sum: GapSum, others: f64, leaving_room: f64, cut: f64) -> Weight
         GapSum::Finite(pair) if leaving_room > cut => {
             weighed_apart(pair, gap, others, leaving_room, cut)
         }
-        _ => weighed_plain(gap, others),
+        GapSum::Finite(_) | GapSum::Unlimited | GapSum::Spoilt => weighed_plain(gap, others),
     }
 }
