@@ -8,7 +8,7 @@ use upward_rounding::add_up;
 use walk_states::End;
 
 /// The gap: a pair, none because a variable has no limit, or none because a number is not finite.
-// Kept: no Option or Result, since document 01 asks for an enum whose finite case carries the pair.
+// Kept: no Option or Result: document 01 asks for an enum of these three cases, and the answer tells the two without a pair apart.
 #[derive(Clone, Copy)]
 pub enum GapSum {
     Finite(CDouble),
