@@ -33,6 +33,7 @@ fn mentioned(vars: &[usize], v: usize) -> bool
 }
 
 /// How far each bound of `v` may move out where `v` is not leaving.
+#[tactic(auto, using(crate::proofs::Pairs::slack_room_is))]
 fn rooms(s: &Sheet, v: usize) -> Sides
     requires { Readable (lent_model s.now) v }
     ensures low { result.low ≡ widening_room (lent_model s.now) v false }
@@ -69,6 +70,7 @@ fn moved(bound: f64, room: f64, up: bool) -> f64
 }
 
 /// The low and the high edge of `v`.
+#[tactic(auto, using(crate::proofs::Pairs::held_edge, crate::proofs::Pairs::moved_edge))]
 pub fn both_edges(s: &Sheet, leaving: usize, v: usize) -> Sides
     requires { Readable (lent_model s.now) v }
     ensures low { result.low ≡ edge (lent_model s.now) leaving v false }
@@ -91,8 +93,5 @@ pub fn both_edges(s: &Sheet, leaving: usize, v: usize) -> Sides
     let room = rooms(s, v);
     let low = moved(min, room.low, false);
     let high = moved(max, room.high, true);
-    Sides {
-        low: low,
-        high: high,
-    }
+    Sides { low, high }
 }

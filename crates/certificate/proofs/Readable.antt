@@ -1,7 +1,7 @@
 -- What the certificate reads of a row lies within what is lent, on an accepted sheet. Assumes nothing.
 use native.Mathlib.Omega.{arith}
 use mathlib.Core.Path.{◌≡◌, sym, ◌∙◌}
-use mathlib.Core.Bool.{true}
+use mathlib.Core.Bool.{Bool, true}
 use mathlib.Core.Logic.{inl, inr}
 use mathlib.Core.List.{List, [], ◌∷◌}
 use Prim.Native.Nat.{ℕ, ◌+◌, ◌-◌, ◌<◌, ◌≤◌}
@@ -17,7 +17,7 @@ use Rattle.sheet.specs.Sheet.{Sheet, variables}
 use Rattle.sheet_answers.specs.Answers.{Accepted}
 use Rattle.sheet_answers.proofs.Accepted.{AllYes, all_yes, rows_lie}
 use Rattle.sheet_answers.proofs.Consequences.{by_row, by_variable}
-use Rattle.certificate.specs.System.{system_of, row_columns}
+use Rattle.certificate.specs.System.{System, system, system_of, row_columns}
 use Rattle.added_row.specs.Reads.{Within}
 use Rattle.certificate.specs.Reads.{RowReadable}
 
@@ -36,6 +36,11 @@ columns_within structurals slack columns below fine k less =
           )
     ]
 
+-- what is read of the rows, whether or not the multipliers' errors are bounded, and on whichever side the leaving variable leaves
+abbrev pub rows_with : Sheet → Bool → Bool → System
+rows_with s estimated leaving_up =
+    system s.structurals estimated leaving_up s.starts s.columns s.entries s.right_sides s.mins s.maxs s.basic s.rho_hi s.rho_lo s.second
+
 module _ (s : Sheet) (accepted : Accepted s) where
   all : AllYes s
   all = all_yes s accepted
@@ -51,8 +56,8 @@ module _ (s : Sheet) (accepted : Accepted s) where
   pub lie : RowsLie s.rows s.entry_count s.starts
   lie = rows_lie s.rows s.entry_count s.starts all.starts_are_fine (by_row s all).starts_long
 
-  pub row_readable : (r : ℕ) → r < s.rows → RowReadable (system_of s) r (variables s)
-  row_readable r less =
+  pub row_readable : (estimated leaving_up : Bool) (r : ℕ) → r < s.rows → RowReadable (rows_with s estimated leaving_up) r (variables s)
+  row_readable estimated leaving_up r less =
       record {
         slack = omega arith;
         in_starts = omega (arith, (by_row s all).starts_long);

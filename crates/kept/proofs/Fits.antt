@@ -1,7 +1,7 @@
 -- What the functions ask of a sheet, on an accepted one. Assumes nothing.
 use native.Mathlib.Omega.{arith}
 use mathlib.Core.Path.{◌≡◌, sym, subst}
-use mathlib.Core.Bool.{true}
+use mathlib.Core.Bool.{Bool, true}
 use mathlib.Core.List.{List, [], ◌∷◌}
 use Prim.Native.Nat.{ℕ, ◌+◌, ◌-◌, ◌<◌, ◌≤◌, ◌^◌}
 use borrow.Author.Tests.{leb-true}
@@ -18,17 +18,16 @@ use Rattle.sheet_answers.proofs.Consequences.{lengths, by_row, by_variable}
 use Rattle.variable_bounds.specs.Model.{model_of}
 use Rattle.edges.specs.Edges.{leaving_variable}
 use Rattle.edges.proofs.Laws.{readable, leaving_holds}
-use Rattle.certificate.specs.System.{system_of}
 use Rattle.added_row.specs.Added.{Lists}
-use Rattle.certificate.specs.Certificate.{empty, combined}
+use Rattle.certificate.specs.Certificate.{Certificate, empty, combined}
 use Rattle.certificate.specs.Reads.{Lent, RowsGoOn, CertificateFits}
 use Rattle.certificate.proofs.Rows.{rows-counted}
-use Rattle.certificate.proofs.Readable.{lie, row_readable}
+use Rattle.certificate.proofs.Readable.{lie, rows_with, row_readable}
 use Rattle.judgement.specs.Reads.{JudgeFits}
 use Rattle.added_row.specs.declared.adding.Sums.{Sums}
 use Rattle.sheet.specs.declared.answers.Outputs.{Outputs}
 use Rattle.certificate.proofs.Lengths.{after_rows_same, lent_same}
-use Rattle.kept.specs.Kept.{outputs, certificate_of}
+use Rattle.kept.specs.Kept.{outputs}
 
 module _ (s : Sheet) (accepted : Accepted s) where
   all : AllYes s
@@ -61,10 +60,11 @@ module _ (s : Sheet) (accepted : Accepted s) where
           in_errors = leb-true n (length e) h.1.1.1.1.0;
         }
 
-    pub certificate_fits : CertificateFits (system_of s) s.rows (variables s) l e
-    certificate_fits = record { readable = row_readable s accepted; lent = lent-long; small = small }
+    pub certificate_fits : (estimated leaving_up : Bool) → CertificateFits (rows_with s estimated leaving_up) s.rows (variables s) l e
+    certificate_fits estimated leaving_up = record { readable = row_readable s accepted estimated leaving_up; lent = lent-long; small = small }
 
-  -- ---- the empty certificate, and the one of the sheet
+  -- ---- the empty certificate, and the one of the sheet, whether or not the multipliers' errors are bounded and on whichever side the leaving
+  -- variable leaves
   empty-lent : Lent (variables s) (empty (variables s)).lists_of (empty (variables s)).errors
   empty-lent =
       let n = variables s in
@@ -79,32 +79,42 @@ module _ (s : Sheet) (accepted : Accepted s) where
         in_errors = omega (arith, length-replicate n plus_zero);
       }
 
-  empty_goes_on : RowsGoOn (system_of s) s.rows (variables s) (empty (variables s)).lists_of (empty (variables s)).errors
-  empty_goes_on = record { readable = row_readable s accepted; lent = empty-lent; none = λ v less. get_or-replicate (variables s) v 0 0 less; small = small }
-
-  pub combined-lent : Lent (variables s) (certificate_of s).lists_of (certificate_of s).errors
-  unfolding certificate_of combined
-  combined-lent = let h = after_rows_same (system_of s) s.rows (empty (variables s)) in lent_same h.0 h.1 empty-lent
-
   last_start : get_or s.starts s.rows 0 ≤ s.entry_count
   last_start =
       let some = (sizes_hold s.rows s.structurals s.entry_count all.sizes_are_fine).some in
       let e : s.rows - 1 + 1 ≡ s.rows = omega arith in
       subst (λ (r : ℕ). get_or s.starts r 0 ≤ s.entry_count) e ((lie s accepted).inside (s.rows - 1) (omega arith))
 
-  terms_small : (certificate_of s).sums_of.terms + variables s < 2 ^ 64
-  unfolding certificate_of combined
-  terms_small =
-      omega (arith, (rows-counted empty_goes_on s.rows (omega arith)).terms_few, last_start, small, few_variables, (by_row s all).columns_long)
+  module _ (estimated leaving_up : Bool) where
+    empty_goes_on : RowsGoOn (rows_with s estimated leaving_up) s.rows (variables s) (empty (variables s)).lists_of (empty (variables s)).errors
+    empty_goes_on =
+        record {
+          readable = row_readable s accepted estimated leaving_up;
+          lent = empty-lent;
+          none = λ v less. get_or-replicate (variables s) v 0 0 less;
+          small = small;
+        }
 
-  -- ---- the judgement
-  pub judge_fits : (l : Lists) (e : List Float) {c : Sums} → Lent (variables s) l e → c ≡ (certificate_of s).sums_of → JudgeFits (model_of s) (variables s) (leaving_variable s) l e c
-  judge_fits l e long is =
-      record {
-        walk_fits = record { readable = readable s accepted; lent = long; small = subst (λ (c : Sums). c.terms + variables s < 2 ^ 64) (sym is) terms_small };
-        leaving_fits =
-            record {
-              readable = readable s accepted (leaving_variable s) (leaving_holds s accepted).0;
-              in_values = omega (arith, (leaving_holds s accepted).0, (by_variable s all).values_long);
-            };
-      }
+    abbrev pub certificate_with : Certificate
+    certificate_with = combined (rows_with s estimated leaving_up) s.rows (variables s)
+
+    pub combined-lent : Lent (variables s) certificate_with.lists_of certificate_with.errors
+    unfolding combined
+    combined-lent = let h = after_rows_same (rows_with s estimated leaving_up) s.rows (empty (variables s)) in lent_same h.0 h.1 empty-lent
+
+    terms_small : certificate_with.sums_of.terms + variables s < 2 ^ 64
+    unfolding combined
+    terms_small =
+        omega (arith, (rows-counted empty_goes_on s.rows (omega arith)).terms_few, last_start, small, few_variables, (by_row s all).columns_long)
+
+    -- ---- the judgement
+    pub judge_fits : (l : Lists) (e : List Float) {c : Sums} → Lent (variables s) l e → c ≡ certificate_with.sums_of → JudgeFits (model_of s) (variables s) (leaving_variable s) l e c
+    judge_fits l e long is =
+        record {
+          walk_fits = record { readable = readable s accepted; lent = long; small = subst (λ (c : Sums). c.terms + variables s < 2 ^ 64) (sym is) terms_small };
+          leaving_fits =
+              record {
+                readable = readable s accepted (leaving_variable s) (leaving_holds s accepted).0;
+                in_values = omega (arith, (leaving_holds s accepted).0, (by_variable s all).values_long);
+              };
+        }

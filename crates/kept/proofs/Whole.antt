@@ -15,10 +15,11 @@ use Rattle.sheet_answers.specs.Answers.{Accepted, first_no}
 use Rattle.variable_bounds.specs.Model.{Model, model_of}
 use Rattle.edges.specs.Edges.{leaving_variable}
 use Rattle.added_row.specs.declared.adding.Sums.{Sums}
-use Rattle.certificate.specs.System.{System, system, system_of}
+use Rattle.certificate.specs.System.{System, system_of}
 use Rattle.added_row.specs.Added.{Lists}
 use Rattle.certificate.specs.Certificate.{Certificate, certificate, combined, over, written}
-use Rattle.certificate.specs.Reads.{Lent, CertificateFits}
+use Rattle.certificate.specs.Reads.{Lent}
+use Rattle.certificate.proofs.Readable.{rows_with}
 use Rattle.walk_states.specs.declared.steps.Coefficient.{Coefficient}
 use Rattle.walk_step.specs.Step.{coefficient_at, step}
 use Rattle.walk.specs.Walk.{onward, walk_over}
@@ -84,44 +85,40 @@ module _ (estimated : Bool) {count : ℕ} (c : Certificate) (l : Lists) (e : Lis
       }
 
 -- ---- an accepted sheet, whose error bounds and leaving variable were found
-module _ (s : Sheet) (accepted : Accepted s) (l : Lists) (e : List Float) (lends : s.outputs ≡ outputs l e) {estimated : Bool} (bounds : estimated ≡ (system_of s).estimated) where
-  abbrev with_bounds : Bool → System
-  with_bounds b =
-      system s.structurals b (is_set s.leaving_up) s.starts s.columns s.entries s.right_sides s.mins s.maxs s.basic s.rho_hi s.rho_lo s.second
+abbrev with_bounds : Sheet → Bool → System
+with_bounds s b = rows_with s b (is_set s.leaving_up)
 
-  pub certificate_asks : CertificateFits (with_bounds estimated) s.rows (variables s) l e
-  certificate_asks = subst (λ (b : Bool). CertificateFits (with_bounds b) s.rows (variables s) l e) (sym bounds) (certificate_fits s accepted l e lends)
+module _ (s : Sheet) (accepted : Accepted s) (l : Lists) (e : List Float) (lends : s.outputs ≡ outputs l e) (estimated : Bool) {k : Lists} {f : List Float} {c : Sums} where
+  pub judge_asks : (leaving_up : Bool) {leaving : ℕ} → certificate k f c ≡ written estimated (variables s) (combined (rows_with s estimated leaving_up) s.rows (variables s)) l e
+      → leaving ≡ leaving_variable s → JudgeFits (model_of s) (variables s) leaving k f c
+  unfolding written
+  judge_asks leaving_up is leaves =
+      subst (λ (v : ℕ). JudgeFits (model_of s) (variables s) v k f c) (sym leaves)
+      (judge_fits s accepted estimated leaving_up k f
+      (subst (λ (x : Certificate). Lent (variables s) x.lists_of x.errors) (sym is)
+      (written-long estimated (combined (rows_with s estimated leaving_up) s.rows (variables s)) l e (combined-lent s accepted estimated leaving_up)
+      (certificate_fits s accepted l e lends estimated leaving_up).lent.in_errors))
+      (ap (λ (x : Certificate). x.sums_of) is))
 
-  module _ {k : Lists} {f : List Float} {c : Sums} (is : certificate k f c ≡ written estimated (variables s) (combined (with_bounds estimated) s.rows (variables s)) l e) where
+  module _ (bounds : estimated ≡ (system_of s).estimated) (is : certificate k f c ≡ written estimated (variables s) (combined (with_bounds s estimated) s.rows (variables s)) l e) where
     writes : certificate k f c ≡ written (system_of s).estimated (variables s) (certificate_of s) l e
     unfolding certificate_of
-    writes = is ∙ ap (λ (b : Bool). written b (variables s) (combined (with_bounds b) s.rows (variables s)) l e) bounds
+    writes = is ∙ ap (λ (b : Bool). written b (variables s) (combined (with_bounds s b) s.rows (variables s)) l e) bounds
 
     pub filled_in_lem : lent k f ≡ filled_in s (lent l e)
     unfolding filled_in
     filled_in_lem = ap (λ (x : Certificate). lent x.lists_of x.errors) writes
 
-    sums_are : c ≡ (certificate_of s).sums_of
-    unfolding written
-    sums_are = ap (λ (x : Certificate). x.sums_of) writes
-
-    module _ {leaving : ℕ} (leaves : leaving ≡ leaving_variable s) where
-      pub judge_asks : JudgeFits (model_of s) (variables s) leaving k f c
-      judge_asks =
-          subst (λ (v : ℕ). JudgeFits (model_of s) (variables s) v k f c) (sym leaves)
-          (judge_fits s accepted k f
-          (subst (λ (x : Certificate). Lent (variables s) x.lists_of x.errors) (sym writes)
-          (written-long (system_of s).estimated (certificate_of s) l e (combined-lent s accepted) (certificate_fits s accepted l e lends).lent.in_errors))
-          sums_are)
-
-      pub kept_is : {p : Proof} → p ≡ judgement (model_of s) leaving estimated (variables s) (certificate k f c) → p ≡ proof_of s
-      unfolding proof_of
-      kept_is judges =
-          judges
-          ∙ ap (λ (v : ℕ). judgement (model_of s) v estimated (variables s) (certificate k f c)) leaves
-          ∙ ap (λ (b : Bool). judgement (model_of s) (leaving_variable s) b (variables s) (certificate k f c)) bounds
-          ∙ ap (judgement (model_of s) (leaving_variable s) (system_of s).estimated (variables s)) writes
-          ∙ judgement-written (system_of s).estimated (certificate_of s) l e (combined-lent s accepted) (model_of s) (leaving_variable s)
+    pub kept_is : {leaving : ℕ} {p : Proof} → leaving ≡ leaving_variable s
+        → p ≡ judgement (model_of s) leaving estimated (variables s) (certificate k f c) → p ≡ proof_of s
+    unfolding proof_of certificate_of
+    kept_is leaves judges =
+        judges
+        ∙ ap (λ (v : ℕ). judgement (model_of s) v estimated (variables s) (certificate k f c)) leaves
+        ∙ ap (λ (b : Bool). judgement (model_of s) (leaving_variable s) b (variables s) (certificate k f c)) bounds
+        ∙ ap (judgement (model_of s) (leaving_variable s) (system_of s).estimated (variables s)) writes
+        ∙ judgement-written (system_of s).estimated (certificate_of s) l e
+        (combined-lent s accepted (system_of s).estimated (is_set s.leaving_up)) (model_of s) (leaving_variable s)
 
 -- ---- what is lent afterwards, where no question refuses and where one does
 module _ (s : Sheet) (before : KeptLent) where

@@ -65,6 +65,7 @@ impl From<Result<Proof, Refusal>> for Kept {
 }
 
 /// The questions, and the kept numbers of a sheet that passes them.
+// Kept: thirty parameters, since the C interface lends each slice by itself; the sheet and the lists are made of them here.
 #[unsafe(no_mangle)]
 pub extern "C" fn proof_of(
     rows: usize,

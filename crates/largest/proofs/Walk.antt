@@ -7,34 +7,17 @@ use borrow.Author.Tests.{not-true, not-false}
 use lib.Ieee.{Float, nan, inf, fin, eq}
 use lib.Ieee.Scale.{finite}
 use Rattle.exact.proofs.Turns.{Turn, first, next, done}
-use Rattle.doubles.specs.Compare.{larger}
 use Rattle.doubles.specs.Directed.{sum_up}
 use Rattle.cdouble.specs.Compensated.{plus_zero}
 use Rattle.cdouble.proofs.Contracts.{when_true, when_false}
 use Rattle.questions.proofs.All.{and_left, and_right, Passed, first as Passed-none, next as passed-one, stop as not-passed, done as passed-all}
 use Rattle.gaps.specs.Rows.{Ranges}
-use Rattle.gaps.specs.Steps.{skipped, limited, limited_at, at_edge, term, with_term, largest}
+use Rattle.gaps.specs.Steps.{skipped, limited, limited_at, term, with_term, largest}
 use Rattle.gaps.proofs.Agreement.{limits_same, largest_same}
 use Rattle.both_edges.specs.declared.Sides.{Sides}
 use Rattle.largest.specs.Walk.{range_at, stepped, largest_or_infinite}
 
 module _ (l u low high : Float) where
-  -- ---- `term`
-  module _ {f : Bool} (low-is : f ≡ finite low) where
-    pub term_at_high : {r : Float} → not f ≡ true → r ≡ at_edge l u high → r ≡ term l u low high
-    unfolding term
-    term_at_high infinite e = when_false _ e (sym low-is ∙ not-true f infinite)
-
-    module _ {a : Float} {g : Bool} (some : not f ≡ false) (at_low : a ≡ at_edge l u low) (high_is : g ≡ finite high) where
-      pub term_at_low : not g ≡ true → a ≡ term l u low high
-      unfolding term
-      term_at_low infinite = when_true _ (when_false _ at_low (sym high_is ∙ not-true g infinite)) (sym low-is ∙ not-false f some)
-
-      pub term_at_both : {b r : Float} → not g ≡ false → b ≡ at_edge l u high → r ≡ larger a b → r ≡ term l u low high
-      unfolding term
-      term_at_both both at_high e =
-          when_true _ (when_true _ (rw (e, at_low, at_high) refl) (sym high_is ∙ not-false g both)) (sym low-is ∙ not-false f some)
-
   -- ---- `with_term`
   module _ (sum : Float) {s : Bool} (is : s ≡ skipped l u) where
     pub without_term : s ≡ true → sum ≡ with_term l u low high sum

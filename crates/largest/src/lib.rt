@@ -34,6 +34,7 @@ fn unlimited(l: f64, u: f64, low: f64, high: f64) -> bool
 }
 
 /// Whether both ends are finite, and the variable's term has a limit.
+#[tactic(auto, unfolding(gaps::specs::Steps::limited))]
 fn limited(l: f64, u: f64, low: f64, high: f64) -> bool
     ensures { result ≡ limited l u low high }
 {
@@ -41,14 +42,12 @@ fn limited(l: f64, u: f64, low: f64, high: f64) -> bool
 }
 
 /// The larger of `a` and `b`, by comparisons that need no branch.
+#[tactic(auto, unfolding(doubles::specs::Compare::larger))]
 // Kept: `double_bits::max` promises the same by the order of bit patterns; the outward gap met its bar of speed only without the mispredicted branches of that form.
 fn larger_of(a: f64, b: f64) -> f64
     ensures { result ≡ larger a b }
 {
-    if a != a {
-        return b;
-    }
-    if a < b { b } else { a }
+    if a.is_nan() | (a < b) { b } else { a }
 }
 
 /// The larger of both ends times an edge, rounded up.
@@ -61,6 +60,7 @@ fn at_edge(l: f64, u: f64, edge: f64) -> f64
 }
 
 /// The largest of both ends times the finite edges.
+#[tactic(auto, unfolding(gaps::specs::Steps::term))]
 fn term(l: f64, u: f64, low: f64, high: f64) -> f64
     ensures { result ≡ term l u low high }
 {
@@ -76,6 +76,7 @@ fn term(l: f64, u: f64, low: f64, high: f64) -> f64
 
 /// The sum after the variable `v`, whose coefficient lies between `l` and `u`, if it has a limit. Its edges are reckoned
 /// only where it counts.
+#[tactic(auto, using(crate::proofs::Walk::step_skips, crate::proofs::Walk::step_ends, crate::proofs::Walk::step_counts))]
 fn step(s: &Sheet, leaving: usize, v: usize, l: f64, u: f64, sum: f64) -> Option<f64>
     requires { Readable (lent_model s.now) v }
     ensures { result ≡ stepped l u (range_at (ranges_in (lent_model s.now) leaving) v) sum }
@@ -92,6 +93,7 @@ fn step(s: &Sheet, leaving: usize, v: usize, l: f64, u: f64, sum: f64) -> Option
 
 /// The largest value over the first `count` variables, whose coefficients lie between `lower` and `upper`. The walk ends at
 /// the first variable that has no limit, with +infinity.
+#[tactic(auto, using(crate::proofs::Walk::all_walked))]
 pub fn largest_value(s: &Sheet, count: usize, leaving: usize, lower: &[f64], upper: &[f64]) -> f64
     requires { WalkFits (lent_model s.now) count lower.now upper.now }
     ensures { result ≡ largest_or_infinite (at lower.now) (at upper.now) (ranges_in (lent_model s.now) leaving) count }

@@ -14,22 +14,17 @@ use Rattle.sheet_answers.proofs.Consequences.{by_row, by_variable}
 use Rattle.variable_bounds.specs.Model.{model_of}
 use Rattle.edges.specs.Edges.{leaving_variable}
 use Rattle.edges.proofs.Laws.{readable}
-use Rattle.certificate.specs.System.{System, system, system_of, multiplier_at}
-use Rattle.certificate.proofs.Readable.{row_readable}
+use Rattle.certificate.specs.System.{System, system_of, multiplier_at}
+use Rattle.certificate.proofs.Readable.{rows_with, row_readable}
 use Rattle.gaps.specs.Rows.{rows_in, ranges_in}
 use Rattle.gaps.specs.Steps.{outward_gap, outward_of}
 use Rattle.coefficients.specs.Reads.{RowRead}
 use Rattle.outward_sheet.specs.Reads.{OutwardFits}
 
--- what is read of the rows, whether or not the multipliers' errors are bounded
-abbrev pub rows_with : Sheet → Bool → System
-rows_with s estimated =
-    system s.structurals estimated (is_set s.leaving_up) s.starts s.columns s.entries s.right_sides s.mins s.maxs s.basic s.rho_hi s.rho_lo s.second
-
 module _ (s : Sheet) (accepted : Accepted s) where
-  row_read : (estimated : Bool) (r : ℕ) → r < s.rows → RowRead (rows_with s estimated) r (variables s)
-  row_read estimated r less =
-      let h = row_readable s accepted r less in
+  row_read : (estimated leaving_up : Bool) (r : ℕ) → r < s.rows → RowRead (rows_with s estimated leaving_up) r (variables s)
+  row_read estimated leaving_up r less =
+      let h = row_readable s accepted estimated leaving_up r less in
       record {
         multiplier = (omega (arith, h.slack, h.in_mins), omega (arith, h.slack, h.in_maxs), h.in_rho_hi, h.in_rho_lo, h.in_second);
         in_starts = h.in_starts;
@@ -51,15 +46,18 @@ module _ (s : Sheet) (accepted : Accepted s) where
       let h = sizes_hold s.rows s.structurals s.entry_count (all_yes s accepted).sizes_are_fine in
       omega (arith, h.rows_most, h.structurals_most)
 
-  pub outward_fits : (estimated : Bool) → OutwardFits (rows_with s estimated) (model_of s) s.rows (variables s)
-  outward_fits estimated = record { row_read = row_read estimated; read = readable s accepted; few = few_variables }
+  pub outward_fits : (estimated leaving_up : Bool) → OutwardFits (rows_with s estimated leaving_up) (model_of s) s.rows (variables s)
+  outward_fits estimated leaving_up = record { row_read = row_read estimated leaving_up; read = readable s accepted; few = few_variables }
 
 -- ---- the gap of a sheet whose error bounds and leaving variable were found
+abbrev with_bounds : Sheet → Bool → System
+with_bounds s estimated = rows_with s estimated (is_set s.leaving_up)
+
 pub gap_of : (s : Sheet) {estimated : Bool} {leaving : ℕ} {r : Float} → estimated ≡ (system_of s).estimated → leaving ≡ leaving_variable s
-    → r ≡ outward_gap (multiplier_at (rows_with s estimated)) (rows_in (rows_with s estimated) s.rows (variables s)) (ranges_in (model_of s) leaving)
+    → r ≡ outward_gap (multiplier_at (with_bounds s estimated)) (rows_in (with_bounds s estimated) s.rows (variables s)) (ranges_in (model_of s) leaving)
     → r ≡ outward_of s
 unfolding outward_of
 gap_of s {estimated} bounds leaves e =
     e
-    ∙ ap (λ (v : ℕ). outward_gap (multiplier_at (rows_with s estimated)) (rows_in (rows_with s estimated) s.rows (variables s)) (ranges_in (model_of s) v)) leaves
-    ∙ ap (λ (b : Bool). outward_gap (multiplier_at (rows_with s b)) (rows_in (rows_with s b) s.rows (variables s)) (ranges_in (model_of s) (leaving_variable s))) bounds
+    ∙ ap (λ (v : ℕ). outward_gap (multiplier_at (with_bounds s estimated)) (rows_in (with_bounds s estimated) s.rows (variables s)) (ranges_in (model_of s) v)) leaves
+    ∙ ap (λ (b : Bool). outward_gap (multiplier_at (with_bounds s b)) (rows_in (with_bounds s b) s.rows (variables s)) (ranges_in (model_of s) (leaving_variable s))) bounds

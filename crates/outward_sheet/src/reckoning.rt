@@ -57,6 +57,7 @@ pub fn outward_gap(s: &Sheet, count: usize, estimated: bool, leaving: usize) -> 
     if !all_finite_parts(s, estimated) {
         return f64::NEG_INFINITY;
     }
+    // Kept: arrays of the largest size, since there is no heap and the limits of a sheet are fixed.
     let mut lower = [0.0; MOST_VARIABLES];
     let mut upper = [0.0; MOST_VARIABLES];
     let b = add_rows(s, count, estimated, &mut lower, &mut upper);

@@ -63,6 +63,7 @@ pub fn basis_fine(rows: usize, basic: &[u8], places: &[usize]) -> bool
     if !places_fine(rows, basic, places) {
         return false;
     }
+    // Kept: an array of the largest size, since there is no heap and the limits of a sheet are fixed.
     let mut counts = [0; MOST_ROWS];
     held_once(rows, basic, places, &mut counts)
 }

@@ -95,6 +95,7 @@ pub extern "C" fn cdouble_add_scaled(p: &mut CDouble, c: CDouble, b: f64)
 }
 
 /// The entry point: the verdict on a sheet whose widened list is lent as records.
+// Kept: a parameter for each slice, here and in `verdict_of`, since the C interface lends each by itself.
 #[unsafe(no_mangle)]
 pub extern "C" fn sheet_verdict<'a>(
     widened: &'a [Widened],

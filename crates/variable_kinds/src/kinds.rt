@@ -37,7 +37,7 @@ pub fn holds_on_bounds(
 }
 
 /// The variable whose basis place has the leaving row's number; the variable count where there is none.
-// Kept: no `Option`, since each place of an accepted sheet has a holder (question 9); the definition says the count elsewhere.
+// Kept: no `Option`: each place of an accepted sheet has a holder (question 9), so every caller would take one apart that is always `Some`.
 pub fn leaving_variable(basic: &[u8], places: &[usize], leaving_row: usize) -> usize
     requires { length places.now ≡ length basic.now }
     ensures { result ≡ holder_from basic.now places.now leaving_row 0 (length basic.now) }

@@ -32,8 +32,8 @@ fn with_outward(proof: Proof, outward: f64) -> Verdict
     ensures { result ≡ with_outward proof outward }
 {
     Verdict {
-        proof: proof,
-        outward: outward,
+        proof,
+        outward,
         declined: proof.holds & (0.0 < outward),
     }
 }

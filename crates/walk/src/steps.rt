@@ -37,7 +37,7 @@ pub fn walk_over(
         bounded: 0,
     };
     let mut variables = 0..count;
-    // Kept: a labelled loop and no `for`, since document 01 asks for one that yields how the walk ended.
+    // Kept: a labelled loop, since document 01 asks for one that yields how the walk ended, and a `for` yields nothing.
     let end = 'walk: loop {
         let Some(v) = variables.next() else {
             break 'walk End::Through;

@@ -8,7 +8,7 @@ use upward_rounding::add_up;
 use walk_states::End;
 
 /// The gap: a pair, none because a variable has no limit, or none because a number is not finite.
-// Kept: no Option or Result, since document 01 asks for an enum whose finite case carries the pair.
+// Kept: no Option or Result: document 01 asks for an enum of these three cases, and the answer tells the two without a pair apart.
 #[derive(Clone, Copy)]
 pub enum GapSum {
     Finite(CDouble),
@@ -84,6 +84,7 @@ fn weighed_apart(sum: CDouble, gap: f64, others: f64, leaving_room: f64, cut: f6
 }
 
 /// Whether the gap is above every room and the round-off of its sums, and what it is weighed against.
+#[tactic(auto, unfolding(crate::specs::Gap::gap_of, crate::specs::Gap::weigh))]
 pub fn weigh(sum: GapSum, others: f64, leaving_room: f64, cut: f64) -> Weight
     ensures { result ≡ weigh sum others leaving_room cut }
 {
@@ -92,6 +93,6 @@ pub fn weigh(sum: GapSum, others: f64, leaving_room: f64, cut: f64) -> Weight
         GapSum::Finite(pair) if leaving_room > cut => {
             weighed_apart(pair, gap, others, leaving_room, cut)
         }
-        _ => weighed_plain(gap, others),
+        GapSum::Finite(_) | GapSum::Unlimited | GapSum::Spoilt => weighed_plain(gap, others),
     }
 }

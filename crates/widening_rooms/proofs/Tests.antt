@@ -1,22 +1,17 @@
--- What the branches of `widening_room` show, from what its calls gave. Assumes nothing.
+-- What the branches of `widening_room` for a variable that is not widened show. Assumes nothing.
 use mathlib.Core.Path.{◌≡◌, refl, sym, ◌∙◌}
 use mathlib.Core.Bool.{Bool, true, false}
 use Prim.Native.Nat.{ℕ, ◌-◌, ◌<◌, ◌≤◌}
 use borrow.Author.Tests.{lt-ltb, le-ltb}
 use lib.Ieee.{Float}
-use Rattle.cdouble.specs.Compensated.{plus_zero}
 use Rattle.cdouble.proofs.Contracts.{when_true, when_false}
 use Rattle.tolerances.specs.Tolerances.{toward}
 use Rattle.variable_bounds.specs.Model.{Model, tols_of}
 use Rattle.widening_rooms.specs.Rooms.{slack_room_at, widening_room}
 use Rattle.variable_kinds.specs.Variables.{is_widened}
 
--- ---- `widening_room`, from what its calls gave
+-- ---- `widening_room` where nothing is widened, from what its calls gave
 module _ (m : Model) (v : ℕ) (up : Bool) {w : Bool} (is : w ≡ is_widened m.widened_variables m.widened_ups v up) where
-  pub room_widened : w ≡ true → plus_zero ≡ widening_room m v up
-  unfolding widening_room
-  room_widened t = when_true _ refl (sym is ∙ t)
-
   pub room_structural : {r : Float} → w ≡ false → v < m.structurals → r ≡ toward (tols_of m v) up → r ≡ widening_room m v up
   unfolding widening_room
   room_structural f less e = when_false _ (when_true _ e (lt-ltb v m.structurals less)) (sym is ∙ f)

@@ -13,6 +13,7 @@ use variable_bounds::tolerance_of;
 use variable_kinds::is_widened;
 
 /// How far the slack of the row `r` may move past its bounds where it is not leaving.
+#[tactic(auto, unfolding(row_questions::specs::Rows::part))]
 pub fn room_of_row(s: &Sheet, r: usize) -> f64
     requires row { RowReadable (lent_model s.now) r }
     requires entries_len { length s.now.entries.now ≡ length s.now.columns.now }
@@ -33,6 +34,7 @@ pub fn room_of_row(s: &Sheet, r: usize) -> f64
 }
 
 /// How far the bound of `v` on this side may move out where `v` is not leaving.
+#[tactic(auto, unfolding(crate::specs::Rooms::widening_room))]
 pub fn widening_room(s: &Sheet, v: usize, up: bool) -> f64
     requires { Readable (lent_model s.now) v }
     ensures { result ≡ widening_room (lent_model s.now) v up }

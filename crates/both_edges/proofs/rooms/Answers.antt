@@ -2,7 +2,7 @@
 use mathlib.Core.Bool.{true, false}
 use Rattle.tolerances.specs.Tolerances.{toward}
 use Rattle.variable_bounds.specs.Model.{lent_model}
-use Rattle.both_edges.proofs.Pairs.{structural_room, slack_room_is}
+use Rattle.both_edges.proofs.Pairs.{structural_room}
 use Rattle.both_edges.proofs.rooms.Goals as goal
 
 pub returns-then-v-s-clause-low : goal.returns-then-v-s-clause-low
@@ -12,11 +12,3 @@ returns-then-v-s-clause-low c = structural_room (lent_model c.args.s.now) c.args
 pub returns-then-v-s-clause-high : goal.returns-then-v-s-clause-high
 unfolding toward
 returns-then-v-s-clause-high c = structural_room (lent_model c.args.s.now) c.args.v c.mentioned.ensures c.if-mentioned.false true c.if-v-s.true
-
-pub returns-clause-low : goal.returns-clause-low
-returns-clause-low c =
-    slack_room_is (lent_model c.args.s.now) c.args.v c.mentioned.ensures c.if-mentioned.false false c.if-v-s.false c.room_of_row-room.ensures
-
-pub returns-clause-high : goal.returns-clause-high
-returns-clause-high c =
-    slack_room_is (lent_model c.args.s.now) c.args.v c.mentioned.ensures c.if-mentioned.false true c.if-v-s.false c.room_of_row-room.ensures

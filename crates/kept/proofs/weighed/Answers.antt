@@ -5,8 +5,8 @@ use Rattle.sheet_answers.proofs.Accepted.{all_yes}
 use Rattle.sheet_answers.proofs.Consequences.{by_row, by_variable}
 use Rattle.added_row.specs.Lent.{lent_lists}
 use Rattle.kept.specs.Kept.{sheet_lent}
-use Rattle.kept.proofs.Fits.{few_variables}
-use Rattle.kept.proofs.Whole.{certificate_asks, judge_asks, filled_in_lem, kept_is}
+use Rattle.kept.proofs.Fits.{few_variables, certificate_fits}
+use Rattle.kept.proofs.Whole.{judge_asks, filled_in_lem, kept_is}
 use Rattle.kept.proofs.weighed.Goals as goal
 
 pub overflow_add-count : goal.overflow_add-count
@@ -22,21 +22,20 @@ leaving_variable-leaving-requires c =
 
 pub certificate-c-requires : goal.certificate-c-requires
 certificate-c-requires c =
-    certificate_asks (sheet_lent c.args.s.now c.args.l.now c.args.errors.now) c.requires (lent_lists c.args.l.now) c.args.errors.now refl
-    c.error_bounds-estimated.ensures
+    certificate_fits (sheet_lent c.args.s.now c.args.l.now c.args.errors.now) c.requires (lent_lists c.args.l.now) c.args.errors.now refl _ _
 
 pub judge-requires : goal.judge-requires
 judge-requires c =
     judge_asks (sheet_lent c.args.s.now c.args.l.now c.args.errors.now) c.requires (lent_lists c.args.l.now) c.args.errors.now refl
-    c.error_bounds-estimated.ensures c.certificate-c.ensures.value c.leaving_variable-leaving.ensures
+    _ _ c.certificate-c.ensures.value c.leaving_variable-leaving.ensures
 
 pub returns : goal.returns
 returns c =
     let whole = sheet_lent c.args.s.now c.args.l.now c.args.errors.now in
     record {
       value =
-          kept_is whole c.requires (lent_lists c.args.l.now) c.args.errors.now refl c.error_bounds-estimated.ensures c.certificate-c.ensures.value
+          kept_is whole c.requires (lent_lists c.args.l.now) c.args.errors.now refl _ c.error_bounds-estimated.ensures c.certificate-c.ensures.value
           c.leaving_variable-leaving.ensures c.judge.ensures;
-      lent_after = filled_in_lem whole c.requires (lent_lists c.args.l.now) c.args.errors.now refl c.error_bounds-estimated.ensures c.certificate-c.ensures.value;
+      lent_after = filled_in_lem whole c.requires (lent_lists c.args.l.now) c.args.errors.now refl _ c.error_bounds-estimated.ensures c.certificate-c.ensures.value;
       same_slices = c.certificate-c.ensures.same_slices;
     }

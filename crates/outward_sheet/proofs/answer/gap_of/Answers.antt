@@ -15,7 +15,7 @@ pub leaving_variable-leaving-requires : goal.leaving_variable-leaving-requires
 leaving_variable-leaving-requires c = places_same (lent_sheet c.args.s.now c.args.outputs) c.requires
 
 pub outward_gap-requires : goal.outward_gap-requires
-outward_gap-requires c = outward_fits (lent_sheet c.args.s.now c.args.outputs) c.requires _
+outward_gap-requires c = outward_fits (lent_sheet c.args.s.now c.args.outputs) c.requires _ _
 
 pub returns-clause-value : goal.returns-clause-value
 returns-clause-value c =
