@@ -4,7 +4,7 @@
 #![tactic(auto)]
 
 ghost use Rattle.std.specs.Prelude.{◌≡◌, ℕ, ◌+◌, ◌*◌, ◌<◌, ◌≤◌, get_or, length, IfOk, IfSome};
-ghost use Rattle.tables.specs.Table.{digits};
+ghost use Rattle.tables.specs.Table.{digits, RunsLines};
 
 use hex_digits::digit_of;
 pub use hex_digits::{bits_of, double_of};
@@ -30,26 +30,29 @@ pub fn read_full<R: Read>(input: &mut R, bytes: &mut [u8]) -> io::Result<usize>
     Ok(done)
 }
 
-/// Runs each line of the input, until there is none left or an error comes. What is left of a line cut short is 0, so such
-/// a line has not the form of one. Nothing says that the input ends, and a proved loop has to: no run uses its turns up.
+/// Runs each line of the input, until there is none left or an error comes, and answers how many there were. What is left
+/// of a line cut short is 0, so such a line has not the form of one. Nothing says that the input ends, and a proved loop
+/// has to: no run uses its turns up.
 pub fn each_line<const LINE: usize, I: Read, F: FnMut(&[u8]) -> io::Result<()>>(
     input: &mut I,
     mut run: F,
-) -> io::Result<()>
+) -> io::Result<u64>
     requires length { LINE ≤ 4096 }
     requires callable { F.IsAlwaysCallable run }
+    ensures ran { IfOk result (λ n. (last : F) × RunsLines F.FnMut LINE n run last) }
 {
-    for _ in 0..u64::MAX {
+    for done in 0..u64::MAX {
         let mut line = [0u8; LINE];
         let n = read_full(input, &mut line)?;
-        if n > 0 {
-            run(&line)?;
+        if n == 0 {
+            return Ok(done);
         }
+        run(&line)?;
         if n < LINE {
-            break;
+            return Ok(done + 1);
         }
     }
-    Ok(())
+    Ok(u64::MAX)
 }
 
 /// The number that the 16 digits from `at` on spell. There is none where one is no digit or the bytes end before it.
