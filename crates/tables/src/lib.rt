@@ -10,8 +10,10 @@ use hex_digits::digit_of;
 pub use hex_digits::{bits_of, double_of};
 use std::io;
 use std::io::Read;
+pub use tabled::{Report, Tabled};
 pub use tally::{Tallies, Tally, count};
 
+mod tabled;
 mod tally;
 
 /// Reads until the bytes are full or the input ends, and answers how many came.
@@ -35,11 +37,11 @@ pub fn read_full<R: Read>(input: &mut R, bytes: &mut [u8]) -> io::Result<usize>
 /// has to: no run uses its turns up.
 pub fn each_line<const LINE: usize, I: Read, F: FnMut(&[u8]) -> io::Result<()>>(
     input: &mut I,
-    mut run: F,
+    run: &mut F,
 ) -> io::Result<u64>
     requires length { LINE ≤ 4096 }
-    requires callable { F.IsAlwaysCallable run }
-    ensures ran { IfOk result (λ n. (last : F) × RunsLines F.FnMut LINE n run last) }
+    requires callable { F.IsAlwaysCallable run.old }
+    ensures ran { IfOk result (λ n. RunsLines F.FnMut LINE n run.old run.new) }
 {
     for done in 0..u64::MAX {
         let mut line = [0u8; LINE];
