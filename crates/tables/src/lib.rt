@@ -21,7 +21,7 @@ pub fn read_full<R: Read>(input: &mut R, bytes: &mut [u8]) -> io::Result<usize>
     ensures { IfOk result (λ n. n ≤ length bytes.new) }
 {
     let mut done = 0;
-    // Kept: a read gives some bytes, not a turn of a count; how many lines up what is left.
+    // Kept: no method of `Read` fills a slice and says how far it came: `read_exact` only fails, `read_to_end` needs the heap.
     while done < bytes.len() {
         let n = input.read(&mut bytes[done..])?;
         if n == 0 {
