@@ -1,5 +1,5 @@
 -- The numbers of a table, as its bytes spell them, and tallies of its cases. Assumes nothing.
-use Rattle.std.specs.Prelude.{ℕ, zero, suc, ◌≡◌, ◌+◌, ◌*◌, min, List, length, Bool, cond, get_or, set, Option, None, Some, Result, Ok}
+use Rattle.std.specs.Prelude.{ℕ, zero, suc, ◌≡◌, ◌+◌, ◌*◌, min, List, length, Bool, cond, get_or, set, Option, Some, Result, Ok}
 use denote.Ref.{Bor}
 use Rattle.std.specs.Option.{option_and_then}
 use Rattle.std.specs.Fn.{Mut, CalledAt}

@@ -75,12 +75,11 @@ pub fn numbers<const N: usize>(line: &[u8]) -> Option<[u64; N]>
     ensures { IfSome result (λ found. (k : ℕ) → k < N → digits line.now 16 0 (2 + 17 * k) ≡ Some (get_or found k 0)) }
 {
     let mut found = [0u64; N];
-    // Kept: over `found.iter_mut().enumerate()` the proof lacks the array's length.
-    for i in 0..N {
+    for (i, place) in found.iter_mut().enumerate() {
         if line.get(1 + 17 * i) != Some(&b' ') {
             return None;
         }
-        found[i] = number(line, 2 + 17 * i)?;
+        *place = number(line, 2 + 17 * i)?;
     }
     if line.get(1 + 17 * N) != Some(&b'\n') {
         return None;
