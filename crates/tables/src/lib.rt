@@ -4,6 +4,7 @@
 #![tactic(auto)]
 
 ghost use Rattle.std.specs.Prelude.{◌≡◌, ℕ, ◌+◌, ◌*◌, ◌<◌, ◌≤◌, get_or, length, IfOk, IfSome};
+ghost use Rattle.std.specs.Io.{ReadsAtMost};
 ghost use Rattle.tables.specs.Table.{digits, RunsLines};
 
 use hex_digits::digit_of;
@@ -18,7 +19,7 @@ mod tally;
 
 /// Reads until the bytes are full or the input ends, and answers how many came.
 pub fn read_full<R: Read>(input: &mut R, bytes: &mut [u8]) -> io::Result<usize>
-    ensures { IfOk result (λ n. n ≤ length bytes.new) }
+    ensures { ReadsAtMost result bytes.new }
 {
     let mut done = 0;
     // Kept: no method of `Read` fills a slice and says how far it came: `read_exact` only fails, `read_to_end` needs the heap.
