@@ -3,8 +3,9 @@
 #![tactic(auto)]
 
 ghost use Rattle.std.specs.Prelude.{◌≡◌, ◌%◌, ◌≤◌, length, take, nat_lt, set, MatchOption};
-ghost use Rattle.case_slices.specs.Slices.{number_of, room};
+ghost use Rattle.case_slices.specs.Slices.{alike, number_of, room};
 
+use sheet::Outputs;
 use tables::double_of;
 
 /// A few more rows, structural variables, variables, widened items and entries than a sheet may have.
@@ -46,6 +47,7 @@ impl Slice {
     pub fn from_number(n: usize) -> Option<Slice>
         ensures { MatchOption result (18 ≤ n) (λ slice. number_of slice ≡ n) }
     {
+        // Kept: a table's numbers become slices here; `TryFrom` would be no plainer, with an error that nobody reads.
         match n {
             0 => Some(Slice::Starts),
             1 => Some(Slice::Columns),
@@ -71,6 +73,7 @@ impl Slice {
 }
 
 /// Room for each slice.
+// Kept: a sheet lends its slices apart, and the programs have no heap, so each has an array of its own.
 #[derive(Drop)]
 pub struct Slices {
     pub starts: [usize; ROWS],
@@ -122,6 +125,7 @@ impl Slices {
     {
         let flag = byte(value);
         let real = double_of(value as u64);
+        // Kept: each slice is a field, and they have three types, so no table of them can be looked up.
         match slice {
             Slice::Starts => put_at(&mut self.starts, place, value),
             Slice::Columns => put_at(&mut self.columns, place, value),
@@ -169,5 +173,19 @@ pub fn part<T>(xs: &[T], length: usize) -> &[T]
 pub fn byte(n: usize) -> u8
     ensures { result ≡ n % 256 }
 {
+    // Kept: `u8::try_from` refuses what is above 255, and `as u8` alone is proved only where no bit is lost.
     (n % 256) as u8
+}
+
+/// Outputs of one length.
+pub fn outputs_alike(length: usize) -> Outputs
+    ensures { result ≡ alike length }
+{
+    Outputs {
+        high: length,
+        low: length,
+        magnitudes: length,
+        terms: length,
+        errors: length,
+    }
 }

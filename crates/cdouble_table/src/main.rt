@@ -9,7 +9,7 @@
 
 use cdouble::{CDouble, compensated_error};
 use std::{fmt, io};
-use tables::{Tallies, bits_of, double_of, each_line, numbers};
+use tables::{Report, Tabled, Tallies, bits_of, double_of, each_line, numbers};
 use upward_rounding::{add_up, distance_up, mul_up};
 
 // Bytes in a line, its end included.
@@ -78,29 +78,6 @@ fn pair(hi: u64, lo: u64) -> CDouble {
 }
 
 impl Operation {
-    // The operation that a letter names.
-    fn from_letter(letter: u8) -> Option<Operation> {
-        match letter {
-            b'S' => Some(Operation::TwoSum),
-            b'H' => Some(Operation::Split),
-            b'P' => Some(Operation::TwoProduct),
-            b'a' => Some(Operation::Add),
-            b'p' => Some(Operation::AddProduct),
-            b's' => Some(Operation::AddScaled),
-            b'n' => Some(Operation::Neg),
-            b'N' => Some(Operation::Normalized),
-            b'm' => Some(Operation::AbsUp),
-            b'v' => Some(Operation::Value),
-            b'u' => Some(Operation::RoundedUp),
-            b'd' => Some(Operation::RoundedDown),
-            b'A' => Some(Operation::AddUp),
-            b'M' => Some(Operation::MulUp),
-            b'D' => Some(Operation::DistanceUp),
-            b'e' => Some(Operation::CompensatedError),
-            _ => None,
-        }
-    }
-
     // What it answers to five doubles, two of which `compensated_error` takes as counts.
     fn answer(self, first: u64, second: u64, d: CDouble, b: f64) -> Bits {
         let c = pair(first, second);
@@ -127,8 +104,36 @@ impl Operation {
             )),
         }
     }
+}
 
-    // Whether a line has the form of the table and the operation answers what it says.
+impl Tabled for Operation {
+    fn from_letter(letter: u8) -> Option<Operation> {
+        // Kept: the letters of the table become operations here.
+        match letter {
+            b'S' => Some(Operation::TwoSum),
+            b'H' => Some(Operation::Split),
+            b'P' => Some(Operation::TwoProduct),
+            b'a' => Some(Operation::Add),
+            b'p' => Some(Operation::AddProduct),
+            b's' => Some(Operation::AddScaled),
+            b'n' => Some(Operation::Neg),
+            b'N' => Some(Operation::Normalized),
+            b'm' => Some(Operation::AbsUp),
+            b'v' => Some(Operation::Value),
+            b'u' => Some(Operation::RoundedUp),
+            b'd' => Some(Operation::RoundedDown),
+            b'A' => Some(Operation::AddUp),
+            b'M' => Some(Operation::MulUp),
+            b'D' => Some(Operation::DistanceUp),
+            b'e' => Some(Operation::CompensatedError),
+            _ => None,
+        }
+    }
+
+    fn place(self) -> usize {
+        self as usize
+    }
+
     fn holds(self, line: &[u8]) -> bool {
         let Some(found) = numbers::<7>(line) else {
             return false;
@@ -161,20 +166,16 @@ impl fmt::Display for Operation {
     }
 }
 
-// Runs a line. One that names no operation counts among all alone.
-fn run_line(rt: &impl Print, line: &[u8], tallies: &mut Tallies<KINDS>) -> io::Result<()> {
-    let op = line
-        .first()
-        .and_then(|letter| Operation::from_letter(*letter));
-    let agrees = op.is_some_and(|op| op.holds(line));
-    tallies.case(rt, op.map_or(KINDS, |op| op as usize), agrees, line)
-}
-
 fn main(rt: HostRuntime) -> io::Result<()> {
     let mut tallies = Tallies::<KINDS>::NONE;
-    each_line::<LINE, _, _>(&mut rt.stdin(), |line| run_line(&rt, line, &mut tallies))?;
-    for (op, tally) in OPERATIONS.iter().zip(&tallies.kinds) {
-        println!(rt; "{op}: {tally}")?;
-    }
-    println!(rt; "{}", tallies.all)
+    each_line::<LINE, _, _>(
+        &mut rt.stdin(),
+        &mut |line| tallies.run_line::<Operation>(&rt, line),
+    )?;
+    let report = Report {
+        operations: &OPERATIONS,
+        kinds: &tallies.kinds,
+        all: tallies.all,
+    };
+    println!(rt; "{report}")
 }

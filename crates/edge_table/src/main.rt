@@ -8,7 +8,7 @@
 #![tactic(auto)]
 
 use std::{fmt, io};
-use tables::{Tallies, bits_of, double_of, each_line, numbers};
+use tables::{Report, Tabled, Tallies, bits_of, double_of, each_line, numbers};
 
 // Bytes in a line, its end included.
 const LINE: usize = 53;
@@ -45,23 +45,6 @@ const OPERATIONS: [Operation; KINDS] = [
 ];
 
 impl Operation {
-    // The operation that a letter names.
-    fn from_letter(letter: u8) -> Option<Operation> {
-        match letter {
-            b'a' => Some(Operation::Abs),
-            b'f' => Some(Operation::IsFinite),
-            b'M' => Some(Operation::Max),
-            b'm' => Some(Operation::Min),
-            b'u' => Some(Operation::NextUp),
-            b'd' => Some(Operation::NextDown),
-            b'U' => Some(Operation::SumUp),
-            b'D' => Some(Operation::SumDown),
-            b'p' => Some(Operation::ProductDown),
-            b'P' => Some(Operation::ProductUp),
-            _ => None,
-        }
-    }
-
     // What it answers, as bits.
     fn answer(self, a: f64, b: f64) -> u64 {
         match self {
@@ -77,8 +60,30 @@ impl Operation {
             Operation::ProductUp => bits_of(outward_rounding::product_bounds(a, b).up),
         }
     }
+}
 
-    // Whether a line has the form of the table and the operation answers what it says.
+impl Tabled for Operation {
+    fn from_letter(letter: u8) -> Option<Operation> {
+        // Kept: the letters of the table become operations here.
+        match letter {
+            b'a' => Some(Operation::Abs),
+            b'f' => Some(Operation::IsFinite),
+            b'M' => Some(Operation::Max),
+            b'm' => Some(Operation::Min),
+            b'u' => Some(Operation::NextUp),
+            b'd' => Some(Operation::NextDown),
+            b'U' => Some(Operation::SumUp),
+            b'D' => Some(Operation::SumDown),
+            b'p' => Some(Operation::ProductDown),
+            b'P' => Some(Operation::ProductUp),
+            _ => None,
+        }
+    }
+
+    fn place(self) -> usize {
+        self as usize
+    }
+
     fn holds(self, line: &[u8]) -> bool {
         let Some(found) = numbers::<3>(line) else {
             return false;
@@ -105,20 +110,16 @@ impl fmt::Display for Operation {
     }
 }
 
-// Runs a line. One that names no operation counts among all alone.
-fn run_line(rt: &impl Print, line: &[u8], tallies: &mut Tallies<KINDS>) -> io::Result<()> {
-    let op = line
-        .first()
-        .and_then(|letter| Operation::from_letter(*letter));
-    let agrees = op.is_some_and(|op| op.holds(line));
-    tallies.case(rt, op.map_or(KINDS, |op| op as usize), agrees, line)
-}
-
 fn main(rt: HostRuntime) -> io::Result<()> {
     let mut tallies = Tallies::<KINDS>::NONE;
-    each_line::<LINE, _, _>(&mut rt.stdin(), |line| run_line(&rt, line, &mut tallies))?;
-    for (op, tally) in OPERATIONS.iter().zip(&tallies.kinds) {
-        println!(rt; "{op}: {tally}")?;
-    }
-    println!(rt; "{}", tallies.all)
+    each_line::<LINE, _, _>(
+        &mut rt.stdin(),
+        &mut |line| tallies.run_line::<Operation>(&rt, line),
+    )?;
+    let report = Report {
+        operations: &OPERATIONS,
+        kinds: &tallies.kinds,
+        all: tallies.all,
+    };
+    println!(rt; "{report}")
 }

@@ -15,7 +15,7 @@
 
 ghost use Rattle.std.specs.Prelude.{◌+◌, ◌≤◌};
 
-use case_slices::{ROWS, STRUCTURALS, Slice, Slices, VARIABLES, byte, part};
+use case_slices::{ROWS, Slice, Slices, VARIABLES, byte, outputs_alike, part};
 use sheet::{Outputs, Sheet};
 use sheet_answers::first_no;
 use std::io;
@@ -83,6 +83,7 @@ fn read_line(line: &[u8]) -> Option<Line> {
     let a = found[0] as usize;
     let b = found[1] as usize;
     let c = found[2] as usize;
+    // Kept: the letters of the table become what a line says here.
     match line.first()? {
         b'S' => Some(Line::Sound(Shape {
             rows: a.min(MOST),
@@ -97,17 +98,6 @@ fn read_line(line: &[u8]) -> Option<Line> {
         }),
         b'E' => Some(Line::Expect(a)),
         _ => None,
-    }
-}
-
-/// Outputs of one length.
-fn outputs_alike(length: usize) -> Outputs {
-    Outputs {
-        high: length,
-        low: length,
-        magnitudes: length,
-        terms: length,
-        errors: length,
     }
 }
 
@@ -199,6 +189,7 @@ fn entry(k: usize, dense: usize) -> f64 {
 impl Numbers {
     /// Puts one of the lengths and numbers, and answers whether there is one at the place.
     fn put(&mut self, place: usize, value: usize) -> bool {
+        // Kept: the numbers are fields of three types, so no table of them can be looked up.
         match place {
             0..SLICES => self.lengths[place] = value,
             18 => self.outputs.high = value,
@@ -332,8 +323,9 @@ fn main(rt: HostRuntime) -> io::Result<()> {
         },
         slices: Slices::ZERO,
     };
-    each_line::<LINE, _, _>(&mut rt.stdin(), |line| {
-        run_line(&rt, line, &mut case, &mut tallies)
-    })?;
+    each_line::<LINE, _, _>(
+        &mut rt.stdin(),
+        &mut |line| { run_line(&rt, line, &mut case, &mut tallies) },
+    )?;
     report(&rt, &tallies)
 }

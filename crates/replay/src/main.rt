@@ -22,12 +22,12 @@
 ghost use Rattle.std.specs.Prelude.{◌≤◌, length};
 
 use added_row::Lists;
-use case_slices::{Slice, Slices, byte, part};
+use case_slices::{Slice, Slices, byte, outputs_alike, part};
 use judgement::Proof;
 use kept::proof_of;
 use outward_sheet::outward_of;
 use refusal_numbers::Refusal;
-use sheet::{Outputs, Sheet};
+use sheet::Sheet;
 use std::io;
 use tables::{Tally, bits_of, count, double_of, each_line, numbers};
 
@@ -131,6 +131,7 @@ struct Counts {
 }
 
 /// An answer as it stands on a line, doubles as their patterns.
+// Kept: it is compared with the numbers of a line, so the refusal and the flag are the numbers that stand there.
 #[derive(Clone, Copy, PartialEq)]
 struct Answer {
     refusal: usize,
@@ -198,6 +199,7 @@ impl Answer {
 impl Output {
     /// The output that a line has at a number.
     fn from_number(n: usize) -> Option<Output> {
+        // Kept: a line's numbers become outputs here; `TryFrom` would be no plainer, with an error that nobody reads.
         match n {
             0 => Some(Output::High),
             1 => Some(Output::Low),
@@ -265,6 +267,7 @@ impl Shape {
 
     /// The length of a slice.
     fn length(self, slice: Slice) -> usize {
+        // Kept: a length is worked out from the shape, so no table has it.
         match slice {
             Slice::Starts => self.rows.saturating_add(1),
             Slice::Columns | Slice::Entries => self.entries,
@@ -300,6 +303,7 @@ impl Numbers {
 
     /// Puts one of the numbers, and answers whether there is one at the place.
     fn put(&mut self, place: usize, value: usize) -> bool {
+        // Kept: the numbers are fields of three types, so no table of them can be looked up.
         match place {
             0 => self.feasibility = double_of(value as u64),
             1 => self.checked = byte(value),
@@ -329,6 +333,7 @@ impl Written {
 
     /// What an output has at a place, a double as its pattern.
     fn at(&self, output: Output, place: usize) -> Option<usize> {
+        // Kept: each output is a field, and one has another type, so no table of them can be looked up.
         match output {
             Output::High => pattern_at(&self.high, place),
             Output::Low => pattern_at(&self.low, place),
@@ -427,17 +432,6 @@ fn lent(case: &Case) -> Sheet<'_> {
         rho_hi: part(&s.rho_hi, shape.length(Slice::RhoHi)),
         rho_lo: part(&s.rho_lo, shape.length(Slice::RhoLo)),
         second: part(&s.second, shape.length(Slice::Second)),
-    }
-}
-
-/// Outputs of one length.
-fn outputs_alike(length: usize) -> Outputs {
-    Outputs {
-        high: length,
-        low: length,
-        magnitudes: length,
-        terms: length,
-        errors: length,
     }
 }
 
@@ -601,6 +595,7 @@ fn compare(
 /// What a line says. One of another form says nothing.
 fn read_line(line: &[u8]) -> Option<Line> {
     let a = numbers::<8>(line)?.map(|n| n as usize);
+    // Kept: the letters of the table become what a line says here.
     match line.first()? {
         b'S' => Some(Line::New(a)),
         b'D' => Some(Line::Fill(a)),
@@ -661,8 +656,9 @@ fn report(rt: &impl Print, counts: &Counts) -> io::Result<()> {
 fn main(rt: HostRuntime) -> io::Result<()> {
     let mut counts = Counts::NONE;
     let mut case = Case::new(Shape::EMPTY);
-    each_line::<LINE, _, _>(&mut rt.stdin(), |line| {
-        run_line(&rt, line, &mut case, &mut counts)
-    })?;
+    each_line::<LINE, _, _>(
+        &mut rt.stdin(),
+        &mut |line| { run_line(&rt, line, &mut case, &mut counts) },
+    )?;
     report(&rt, &counts)
 }

@@ -93,7 +93,7 @@ fn main(rt: HostRuntime) -> io::Result<()> {
         sum: zero,
         dot: zero,
     };
-    each_line::<LINE, _, _>(&mut rt.stdin(), |line| add_line(&rt, &mut sums, line))?;
+    each_line::<LINE, _, _>(&mut rt.stdin(), &mut |line| add_line(&rt, &mut sums, line))?;
     report(&rt, "sum ", sums.sum)?;
     report(&rt, "dot ", sums.dot)
 }

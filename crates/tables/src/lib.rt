@@ -3,23 +3,29 @@
 
 #![tactic(auto)]
 
-ghost use Rattle.std.specs.Prelude.{◌≡◌, ℕ, ◌+◌, ◌*◌, ◌<◌, ◌≤◌, get_or, length, IfOk, IfSome};
-ghost use Rattle.tables.specs.Table.{digits};
+ghost use Rattle.std.specs.Prelude.{◌≡◌, ℕ, ◌+◌, ◌*◌, ◌<◌, ◌≤◌, get_or, length, take, IfOk, IfSome};
+ghost use Rattle.std.specs.Io.{ReadsAtMost};
+ghost use Rattle.std.specs.Io.KnownBytes.{Consumes, IsAtEnd};
+ghost use Rattle.tables.specs.Table.{digits, RunsLines};
 
 use hex_digits::digit_of;
 pub use hex_digits::{bits_of, double_of};
 use std::io;
 use std::io::Read;
+pub use tabled::{Report, Tabled};
 pub use tally::{Tallies, Tally, count};
 
+mod tabled;
 mod tally;
 
 /// Reads until the bytes are full or the input ends, and answers how many came.
 pub fn read_full<R: Read>(input: &mut R, bytes: &mut [u8]) -> io::Result<usize>
-    ensures { IfOk result (λ n. n ≤ length bytes.new) }
+    ensures within { ReadsAtMost result bytes.new }
+    ensures bytes { IfOk result (λ n. Consumes (R.remaining input.old) (R.remaining input.new) (take n bytes.new)) }
+    ensures end { IfOk result (λ n. n < length bytes.new → IsAtEnd (R.remaining input.new)) }
 {
     let mut done = 0;
-    // Kept: a read gives some bytes, not a turn of a count; how many lines up what is left.
+    // Kept: no method of `Read` fills a slice and says how far it came: `read_exact` only fails, `read_to_end` needs the heap.
     while done < bytes.len() {
         let n = input.read(&mut bytes[done..])?;
         if n == 0 {
@@ -30,26 +36,29 @@ pub fn read_full<R: Read>(input: &mut R, bytes: &mut [u8]) -> io::Result<usize>
     Ok(done)
 }
 
-/// Runs each line of the input, until there is none left or an error comes. What is left of a line cut short is 0, so such
-/// a line has not the form of one. Nothing says that the input ends, and a proved loop has to: no run uses its turns up.
+/// Runs each line of the input, until there is none left or an error comes, and answers how many there were. What is left
+/// of a line cut short is 0, so such a line has not the form of one. Nothing says that the input ends, and a proved loop
+/// has to: no run uses its turns up.
 pub fn each_line<const LINE: usize, I: Read, F: FnMut(&[u8]) -> io::Result<()>>(
     input: &mut I,
-    mut run: F,
-) -> io::Result<()>
+    run: &mut F,
+) -> io::Result<u64>
     requires length { LINE ≤ 4096 }
-    requires callable { F.IsAlwaysCallable run }
+    requires callable { F.IsAlwaysCallable run.old }
+    ensures ran { IfOk result (λ n. RunsLines F.FnMut LINE n run.old run.new) }
 {
-    for _ in 0..u64::MAX {
+    for done in 0..u64::MAX {
         let mut line = [0u8; LINE];
         let n = read_full(input, &mut line)?;
-        if n > 0 {
-            run(&line)?;
+        if n == 0 {
+            return Ok(done);
         }
+        run(&line)?;
         if n < LINE {
-            break;
+            return Ok(done + 1);
         }
     }
-    Ok(())
+    Ok(u64::MAX)
 }
 
 /// The number that the 16 digits from `at` on spell. There is none where one is no digit or the bytes end before it.
@@ -70,12 +79,11 @@ pub fn numbers<const N: usize>(line: &[u8]) -> Option<[u64; N]>
     ensures { IfSome result (λ found. (k : ℕ) → k < N → digits line.now 16 0 (2 + 17 * k) ≡ Some (get_or found k 0)) }
 {
     let mut found = [0u64; N];
-    // Kept: over `found.iter_mut().enumerate()` the proof lacks the array's length.
-    for i in 0..N {
+    for (i, place) in found.iter_mut().enumerate() {
         if line.get(1 + 17 * i) != Some(&b' ') {
             return None;
         }
-        found[i] = number(line, 2 + 17 * i)?;
+        *place = number(line, 2 + 17 * i)?;
     }
     if line.get(1 + 17 * N) != Some(&b'\n') {
         return None;

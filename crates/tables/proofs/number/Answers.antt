@@ -1,6 +1,5 @@
 -- `tables::number` reads what the digits spell. Assumes nothing.
-use Rattle.std.proofs.Common.{arith, ℕ, ◌≡◌, ◌+◌, ◌-◌, ◌<◌, ◌≤◌, get_or, None, sym, ◌∙◌}
-use Rattle.hex_digits.specs.Digit.{digit_of}
+use Rattle.std.proofs.Common.{arith, ◌≡◌, ◌+◌, ◌-◌, ◌<◌, get_or, sym, ◌∙◌}
 use Rattle.tables.proofs.Laws.{digit_small, digits_none, digits_end, digits_short, digit_more, fits_so_far, byte_from, turn}
 use Rattle.tables.proofs.number.Goals as goal
 use Rattle.tables.proofs.number.Goals.{In-loop-byte}

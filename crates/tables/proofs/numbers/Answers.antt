@@ -1,5 +1,5 @@
 -- `tables::numbers` reads each number at its place. Assumes nothing.
-use Rattle.std.proofs.Common.{◌≡◌, ◌<◌, ◌≢◌, length, arith, sym, get_or-set_other, get_or-set_same, below_more, length-set}
+use Rattle.std.proofs.Common.{◌<◌, ◌≢◌, length, arith, sym, get_or-set_other, get_or-set_same, below_more, length-set}
 use Rattle.tables.proofs.numbers.Goals as goal
 
 pub loop-i-preserved : goal.loop-i-preserved
@@ -9,5 +9,5 @@ loop-i-preserved g c =
       read =
           below_more _ _
           (λ k h. let ne : k ≢ c.loop-i.i = omega arith in rw get_or-set_other (c.loop-i.invariant.read k h))
-          (let lt : c.loop-i.i < length c.loop-i.found = omega (arith, c.loop-i.invariant.long) in rw get_or-set_same (sym c.in_ok-found.ensures));
+          (let lt : c.loop-i.i < length c.loop-i.place-items = omega (arith, c.loop-i.invariant.long) in rw get_or-set_same (sym c.in_ok-place.ensures));
     }

@@ -6,6 +6,6 @@ use Rattle.tables.proofs.numbers.Given as goal
 abbrev pub invariant-loop-i : goal.invariant-loop-i
 invariant-loop-i g l =
     record {
-      long : length l.found ≡ l.i-end;
-      read : (k : ℕ) → k < l.i → digits l.line 16 0 (2 + 17 * k) ≡ Some (get_or l.found k 0);
+      long : length l.place-items ≡ l.i-end;
+      read : (k : ℕ) → k < l.i → digits l.line 16 0 (2 + 17 * k) ≡ Some (get_or l.place-items k 0);
     }
