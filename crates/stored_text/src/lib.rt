@@ -8,7 +8,8 @@ ghost use Rattle.stored_text.specs.Digits.{hexadecimal, decimal, digit_count};
 ghost use Rattle.stored_text.specs.Stored.{Stored};
 
 use hex_digits::bits_of;
-use numerals::{digit_count, put_byte, put_digits};
+use numerals::{digit_count, put_digits};
+use repeats::put;
 
 mod numerals;
 
@@ -19,7 +20,7 @@ pub fn put_text(x: &mut [u8], from: usize, text: &[u8]) -> usize
     ensures value { result ≡ from + length text.now }
 {
     for (i, byte) in text.iter().enumerate() {
-        put_byte(x, from + i, *byte);
+        put(x, from + i, *byte);
     }
     from + text.len()
 }

@@ -1,16 +1,9 @@
 //! Digits of numbers, put into a slice of bytes from the last to the first.
-ghost use Rattle.std.specs.Prelude.{◌≡◌, ℕ, ◌+◌, ◌<◌, ◌≤◌, set};
+ghost use Rattle.std.specs.Prelude.{◌≡◌, ℕ, ◌+◌, ◌<◌, ◌≤◌};
 ghost use Rattle.std.proofs.lemmas.List.Edits.{sets};
 ghost use Rattle.stored_text.specs.Digits.{digit_byte, digits, digit_count};
 
-/// Stores a byte, unless the place is beyond the end.
-pub fn put_byte(x: &mut [u8], i: usize, v: u8)
-    ensures { x.new ≡ set x.old i v }
-{
-    if i < x.len() {
-        x[i] = v;
-    }
-}
+use repeats::put;
 
 /// The byte of a digit.
 fn digit_byte(d: u64) -> u8
@@ -31,7 +24,7 @@ pub fn put_digits(x: &mut [u8], from: usize, n: u64, radix: u64, width: usize)
 {
     let mut rest = n;
     for left in (0..width).rev() {
-        put_byte(x, from + left, digit_byte(rest % radix));
+        put(x, from + left, digit_byte(rest % radix));
         rest /= radix;
     }
 }

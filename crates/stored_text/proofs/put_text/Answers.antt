@@ -8,7 +8,7 @@ pub loop-i-init : goal.loop-i-init
 loop-i-init c = refl
 
 pub loop-i-preserved : goal.loop-i-preserved
-loop-i-preserved c = next_byte _ c.args.from c.args.text.now c.loop-i.i c.loop-i.invariant c.put_byte.ensures (omega arith)
+loop-i-preserved c = next_byte _ c.args.from c.args.text.now c.loop-i.i c.loop-i.invariant c.put.ensures (omega arith)
 
 pub returns-clause-stored : goal.returns-clause-stored
 returns-clause-stored c =

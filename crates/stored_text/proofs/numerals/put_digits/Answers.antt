@@ -11,7 +11,7 @@ pub loop-left-preserved : goal.loop-left-preserved
 loop-left-preserved c =
     c.loop-left.invariant
     ∙ last_digit c.loop-left.x c.args.from c.args.radix c.loop-left.left c.loop-left.rest c.loop-left-test.true
-    ∙ rw (c.put_byte.ensures, c.digit_byte.ensures)
+    ∙ rw (c.put.ensures, c.digit_byte.ensures)
 
 pub returns : goal.returns
 unfolding digits
