@@ -14,6 +14,7 @@ use repeats::put;
 mod numerals;
 
 /// Puts a text.
+#[tactic(auto, using(crate::proofs::Storing::next_byte, std::proofs::lemmas::List::take_all))]
 pub fn put_text(x: &mut [u8], from: usize, text: &[u8]) -> usize
     requires { from + length text.now ≤ 65536 }
     ensures stored { Stored x.old x.new from result text.now }
@@ -26,6 +27,7 @@ pub fn put_text(x: &mut [u8], from: usize, text: &[u8]) -> usize
 }
 
 /// Puts a double's 16 digits.
+#[tactic(auto, using(crate::proofs::Lengths::length_digits))]
 pub fn put_double(x: &mut [u8], from: usize, v: f64) -> usize
     requires { from ≤ 60000 }
     ensures stored { Stored x.old x.new from result (hexadecimal v) }
@@ -36,6 +38,7 @@ pub fn put_double(x: &mut [u8], from: usize, v: f64) -> usize
 }
 
 /// Puts a count.
+#[tactic(auto, using(crate::proofs::Lengths::length_digits))]
 pub fn put_count(x: &mut [u8], from: usize, n: u64) -> usize
     requires { from ≤ 60000 }
     ensures stored { Stored x.old x.new from result (decimal n) }

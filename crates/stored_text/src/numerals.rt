@@ -18,6 +18,8 @@ fn digit_byte(d: u64) -> u8
 }
 
 /// Puts the last `width` digits of `n` from a place on.
+// Kept: Display says which bytes it writes only where it answers Ok, and nothing promises that it does; this cannot fail.
+#[tactic(auto, unfolding(crate::specs::Digits::digits), using(crate::proofs::Storing::last_digit))]
 pub fn put_digits(x: &mut [u8], from: usize, n: u64, radix: u64, width: usize)
     requires { (0 < radix) × ((radix ≤ 16) × (from + width ≤ 65536)) }
     ensures { x.new ≡ sets x.old from (digits radix width n) }
@@ -30,15 +32,9 @@ pub fn put_digits(x: &mut [u8], from: usize, n: u64, radix: u64, width: usize)
 }
 
 /// How many decimal digits a number has without leading zeros.
+#[tactic(auto, using(crate::proofs::Numbers::digits_counted))]
 pub fn digit_count(n: u64) -> usize
     ensures { (result ≡ digit_count 19 n) × (result ≤ 20) }
 {
-    let mut rest = n;
-    for count in 1..20 {
-        if rest < 10 {
-            return count;
-        }
-        rest /= 10;
-    }
-    20
+    n.max(1).ilog10() as usize + 1
 }
