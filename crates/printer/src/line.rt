@@ -29,6 +29,7 @@ impl Shown for f64 {
 impl Shown for usize {
     ghost shown = { decimal };
 
+    #[tactic(auto, using(stored_text::proofs::Lengths::decimal_short))]
     fn put(self, x: &mut [u8], from: usize) -> usize {
         put_count(x, from, self as u64)
     }
