@@ -7,6 +7,8 @@ ghost use Rattle.std.specs.Float.{binary64};
 ghost use Rattle.std.specs.Float.Ieee.{of_bits, to_bits};
 ghost use Rattle.hex_digits.specs.Digit.{digit_of};
 
+use std::num::{f64_from_bits_with_nan, f64_to_bits_with_nan};
+
 /// The value of a digit 0-9A-F. No other byte has one.
 pub fn digit_of(c: u8) -> Option<u8>
     ensures { result ≡ digit_of c }
@@ -18,25 +20,16 @@ pub fn digit_of(c: u8) -> Option<u8>
     }
 }
 
-/// The double with a pattern. `from_bits` is not defined at a NaN's, so a NaN is made by a division.
+/// The double with a pattern; a NaN's gives a NaN, where `from_bits` is not defined.
 pub fn double_of(bits: u64) -> f64
     ensures { result ≡ of_bits binary64 bits }
 {
-    if 0x7FF0_0000_0000_0000 < bits % 0x8000_0000_0000_0000 {
-        let zero: f64 = 0.0;
-        zero / zero
-    } else {
-        f64::from_bits(bits)
-    }
+    f64_from_bits_with_nan(bits)
 }
 
 /// A double's pattern, the same for every NaN.
 pub fn bits_of(v: f64) -> u64
     ensures { result ≡ to_bits binary64 v }
 {
-    if v != v {
-        0x7FF8_0000_0000_0000
-    } else {
-        f64::to_bits(v)
-    }
+    f64_to_bits_with_nan(v)
 }

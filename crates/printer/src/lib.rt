@@ -6,7 +6,7 @@ ghost use Rattle.std.specs.Prelude.{◌≡◌, ℕ, ◌≤◌, length};
 ghost use Rattle.stored_text.specs.Stored.{Stored};
 ghost use Rattle.printer.specs.Answer.{answer_text, nine_lines, refusal_line, written_if_fits};
 
-use line::{put_count_line, put_double_line, put_flag_line};
+use line::put_line;
 use stored_text::put_text;
 
 mod line;
@@ -32,43 +32,46 @@ const LONGEST: usize = 256;
 fn put_lines(x: &mut [u8], lines: Lines) -> usize
     ensures { Stored x.old x.new 0 result (nine_lines lines) }
 {
-    let gap = put_flag_line(x, 0, b"(holds ", lines.holds);
-    let allowance = put_double_line(x, gap, b"(gap ", lines.gap);
-    let cut = put_double_line(x, allowance, b"(allowance ", lines.allowance);
-    let zero_within_error = put_double_line(x, cut, b"(cut ", lines.cut);
-    let multipliers_zeroed = put_count_line(
+    let gap = put_line(x, 0, b"(holds ", lines.holds);
+    let allowance = put_line(x, gap, b"(gap ", lines.gap);
+    let cut = put_line(x, allowance, b"(allowance ", lines.allowance);
+    let zero_within_error = put_line(x, cut, b"(cut ", lines.cut);
+    let multipliers_zeroed = put_line(
         x,
         zero_within_error,
         b"(zero-within-error ",
-        lines.zero_within_error as u64,
+        lines.zero_within_error,
     );
-    let rows = put_count_line(
+    let rows = put_line(
         x,
         multipliers_zeroed,
         b"(multipliers-zeroed ",
-        lines.multipliers_zeroed as u64,
+        lines.multipliers_zeroed,
     );
-    let outward = put_count_line(x, rows, b"(rows ", lines.rows as u64);
-    let declined = put_double_line(x, outward, b"(outward ", lines.outward);
-    put_flag_line(x, declined, b"(declined ", lines.declined)
+    let outward = put_line(x, rows, b"(rows ", lines.rows);
+    let declined = put_line(x, outward, b"(outward ", lines.outward);
+    put_line(x, declined, b"(declined ", lines.declined)
 }
 
 /// Puts the text of an answer at the front of `x`, and returns the place after it.
+#[tactic(auto, unfolding(crate::specs::Answer::answer_text, crate::specs::Answer::refusal_line))]
 fn put_whole(x: &mut [u8], refusal: u32, lines: Lines) -> usize
     ensures { Stored x.old x.new 0 result (answer_text refusal lines) }
 {
     if refusal == 0 {
         put_lines(x, lines)
     } else {
-        put_count_line(x, 0, b"(refused ", refusal as u64)
+        put_line(x, 0, b"(refused ", refusal as usize)
     }
 }
 
 /// The text of an answer, at the front of `out` where it fits; where it does not, nothing is written. Returns its length.
+#[tactic(auto, using(crate::proofs::Parts::answer_short))]
 pub fn put_answer(refusal: u32, lines: Lines, out: &mut [u8]) -> usize
     ensures value { result ≡ length (answer_text refusal lines) }
     ensures out_after { out.new ≡ written_if_fits (answer_text refusal lines) out.old }
 {
+    // Kept: an array, since the device has no heap for a Vec; a text that does not fit must leave `out` as it was.
     let mut text = [0; LONGEST];
     let end = put_whole(&mut text, refusal, lines);
     if end <= out.len() {

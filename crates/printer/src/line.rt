@@ -1,55 +1,59 @@
-//! One line of an answer: its opening, a value, and its end. Each function returns the place after what it put.
-ghost use Rattle.std.specs.Prelude.{◌≡◌, ℕ, ◌+◌, ◌≤◌, length};
+//! One line of an answer. Each function returns the place after what it put.
+ghost use Rattle.std.specs.Prelude.{◌≡◌, List, ℕ, ◌+◌, ◌≤◌, length};
 ghost use Rattle.stored_text.specs.Digits.{hexadecimal, decimal};
 ghost use Rattle.stored_text.specs.Stored.{Stored};
 ghost use Rattle.printer.specs.Answer.{line, yes_or_no};
 
 use stored_text::{put_count, put_double, put_text};
 
-/// Puts a line whose value is a double.
-pub fn put_double_line(x: &mut [u8], from: usize, opening: &[u8], v: f64) -> usize
-    requires { from + length opening.now ≤ 50000 }
-    ensures stored { Stored x.old x.new from result (line opening.now (hexadecimal v)) }
-    ensures upper_bound { result ≤ from + length opening.now + 22 }
-    ensures value { result ≡ from + length (line opening.now (hexadecimal v)) }
-{
-    let value = put_text(x, from, opening);
-    let end = put_double(x, value, v);
-    put_text(x, end, b")\n")
+/// A value that a line shows.
+pub trait Shown {
+    /// Its text.
+    ghost shown: { Self → List ℕ };
+
+    /// Puts the text, which is short.
+    fn put(self, x: &mut [u8], from: usize) -> usize
+        requires { from ≤ 60000 }
+        ensures stored { Stored x.old x.new from result (shown self) }
+        ensures short { length (shown self) ≤ 20 };
 }
 
-/// Puts a line whose value is a count.
-pub fn put_count_line(x: &mut [u8], from: usize, opening: &[u8], n: u64) -> usize
-    requires { from + length opening.now ≤ 50000 }
-    ensures stored { Stored x.old x.new from result (line opening.now (decimal n)) }
-    ensures upper_bound { result ≤ from + length opening.now + 22 }
-    ensures value { result ≡ from + length (line opening.now (decimal n)) }
-{
-    let value = put_text(x, from, opening);
-    let end = put_count(x, value, n);
-    put_text(x, end, b")\n")
-}
+impl Shown for f64 {
+    ghost shown = { hexadecimal };
 
-/// Puts `yes` or `no`.
-fn put_flag(x: &mut [u8], from: usize, flag: bool) -> usize
-    requires { from ≤ 60000 }
-    ensures { Stored x.old x.new from result (yes_or_no flag) }
-{
-    if flag {
-        put_text(x, from, b"yes")
-    } else {
-        put_text(x, from, b"no")
+    fn put(self, x: &mut [u8], from: usize) -> usize {
+        put_double(x, from, self)
     }
 }
 
-/// Puts a line whose value is `yes` or `no`.
-pub fn put_flag_line(x: &mut [u8], from: usize, opening: &[u8], flag: bool) -> usize
+impl Shown for usize {
+    ghost shown = { decimal };
+
+    #[tactic(auto, using(stored_text::proofs::Lengths::decimal_short))]
+    fn put(self, x: &mut [u8], from: usize) -> usize {
+        put_count(x, from, self as u64)
+    }
+}
+
+impl Shown for bool {
+    ghost shown = { yes_or_no };
+
+    fn put(self, x: &mut [u8], from: usize) -> usize {
+        if self {
+            put_text(x, from, b"yes")
+        } else {
+            put_text(x, from, b"no")
+        }
+    }
+}
+
+/// Puts a line: its opening, a value, and its end.
+pub fn put_line<V: Shown>(x: &mut [u8], from: usize, opening: &[u8], value: V) -> usize
     requires { from + length opening.now ≤ 50000 }
-    ensures stored { Stored x.old x.new from result (line opening.now (yes_or_no flag)) }
+    ensures stored { Stored x.old x.new from result (line opening.now (V.shown value)) }
     ensures upper_bound { result ≤ from + length opening.now + 22 }
-    ensures value { result ≡ from + length (line opening.now (yes_or_no flag)) }
 {
-    let value = put_text(x, from, opening);
-    let end = put_flag(x, value, flag);
+    let start = put_text(x, from, opening);
+    let end = value.put(x, start);
     put_text(x, end, b")\n")
 }

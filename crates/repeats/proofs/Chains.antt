@@ -1,14 +1,13 @@
 -- A loop that reads things until there is none, n at most in all, and stores a value of each: what is left to do at its head, one turn, and its
 -- end. `first` things were read before the loop began, `count` before this turn. Assumes nothing.
-use mathlib.Core.Path.{◌≡◌, refl, sym, ap, ◌∙◌}
-use mathlib.Core.List.{List, [], map}
+use mathlib.Core.Path.{◌≡◌, refl, sym, ◌∙◌}
+use mathlib.Core.List.{List, []}
 use mathlib.Core.Bool.{Bool, true, false}
 use mathlib.Core.Logic.{◌⊎◌, inl, inr}
 use Prim.Native.Nat.{ℕ, zero, suc, ◌+◌, ◌-◌, ◌<◌, ◌≤◌}
 use native.Mathlib.Numerals.{add-one}
 use native.Mathlib.Omega.{arith}
 use lib.ListN.{length, set}
-use lib.Seq.{length-sets}
 use Rattle.repeats.specs.Chained.{chain, chain_end}
 use Rattle.repeats.specs.Filled.{filled_from}
 use Rattle.repeats.proofs.Stores.{step_left}
@@ -72,7 +71,3 @@ module _ {P R : Type 0} {none : P → Bool} {read : P → R} {next : R → P} {n
     pub chain_fills_end : {count : ℕ} {p : P} {l : List A} → Over none n count p → ChainFills none read next f n first p₀ l₀ count p l
         → l ≡ filled_from first f (chain none read next (n - first) p₀) l₀
     chain_fills_end {count} {p} {l} o t = sym (t.is ∙ rw (chain_over none read next (n - count) p (over o)))
-
-    pub chain_fills_length : {count : ℕ} {p : P} {l : List A} → ChainFills none read next f n first p₀ l₀ count p l → length l ≡ length l₀
-    chain_fills_length {count} {p} {l} t =
-        sym (length-sets l count (map f (chain none read next (n - count) p))) ∙ sym (ap length t.is) ∙ length-sets l₀ first (map f (chain none read next (n - first) p₀))

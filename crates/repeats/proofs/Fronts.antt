@@ -7,6 +7,7 @@ use native.Mathlib.Numerals.{add-one}
 use native.Mathlib.Omega.{arith}
 use lib.ListN.{length, get_or, take, length-map}
 use lib.Seq.{sets, take-length, take_all}
+use Rattle.std.proofs.lemmas.List.{take-map}
 use Rattle.repeats.specs.Filled.{column, filled_from}
 use Rattle.repeats.proofs.Stores.{sets_behind}
 
@@ -18,9 +19,7 @@ front_sets (suc k) (x ∷ l) [] h g = absurd (omega arith)
 front_sets (suc k) (x ∷ l) (v ∷ vs) h g = rw (sets_behind v l 0 vs) (ap (λ (r : List _). v ∷ r) (front_sets k l vs (omega (arith, h)) (omega (arith, g))))
 
 pub take_map : {R A : Type 0} (f : R → A) (k : ℕ) (things : List R) → take k (map f things) ≡ map f (take k things)
-take_map f zero things = refl
-take_map f (suc k) [] = refl
-take_map f (suc k) (x ∷ things) = ap (λ (r : List _). f x ∷ r) (take_map f k things)
+take_map f k things = take-map f k things
 
 module _ {R A : Type 0} (f : R → A) (things : List R) (before : List A) where
   -- the first k, where the slice has room for them

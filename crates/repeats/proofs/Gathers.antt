@@ -5,7 +5,7 @@ use Prim.Native.Nat.{ℕ, zero, suc, ◌+◌, ◌-◌, ◌<◌, ◌≤◌}
 use native.Mathlib.Numerals.{add-one}
 use native.Mathlib.Omega.{arith}
 use lib.ListN.{length, length-append, length-map}
-use lib.Seq.{sets, length-sets}
+use lib.Seq.{sets}
 use Rattle.repeats.specs.Counted.{after, gather}
 use Rattle.repeats.specs.Filled.{column, filled_from}
 use Rattle.repeats.proofs.Stores.{step_left, sets_append}
@@ -42,7 +42,3 @@ module _ {S R : Type 0} {read : ℕ → S → R} {next : R → S} {n : ℕ} {σ�
   pub gathers_end : {i : ℕ} {σ : S} {l : List B} → n ≤ i → Gathers read next own f place n σ₀ l₀ i σ l → l ≡ column f (gather read next own 0 n σ₀) l₀
   unfolding gather
   gathers_end {i} h t = let z : n - i ≡ 0 = omega arith in sym (t.is ∙ rw z)
-
-  pub gathers_length : {i : ℕ} {σ : S} {l : List B} → Gathers read next own f place n σ₀ l₀ i σ l → length l ≡ length l₀
-  gathers_length {i} {σ} {l} t =
-      sym (length-sets l (place σ) (map f (gather read next own i (n - i) σ))) ∙ sym (ap length t.is) ∙ length-sets l₀ 0 (map f (gather read next own 0 n σ₀))

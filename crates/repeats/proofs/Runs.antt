@@ -1,13 +1,12 @@
 -- A loop that reads n things and stores a value of each: what is left to do at its head, one turn, and its end. Assumes nothing.
 use mathlib.Core.Path.{◌≡◌, refl, sym, ap, ◌∙◌}
 use mathlib.Core.Bool.{Bool, true, false, cond}
-use mathlib.Core.List.{List, map}
+use mathlib.Core.List.{List}
 use Prim.Native.Nat.{ℕ, zero, suc, ◌+◌, ◌-◌, ◌<◌, ◌≤◌}
 use native.Mathlib.Numerals.{add-one}
 use native.Mathlib.Omega.{arith}
 use lib.Dec.{ltb}
 use lib.ListN.{length, set}
-use lib.Seq.{length-sets}
 use borrow.Author.Tests.{ltb-true, ltb-false}
 use Rattle.repeats.specs.Counted.{run, after}
 use Rattle.repeats.specs.Filled.{filled_from}
@@ -66,7 +65,3 @@ module _ {S R : Type 0} {read : ℕ → S → R} {next : R → S} {n : ℕ} {σ�
     pub fills_end : {i : ℕ} {σ : S} {place : ℕ} {l : List A} → n ≤ i → Fills read next f n σ₀ place₀ l₀ i σ place l → l ≡ filled_from place₀ f (run read next 0 n σ₀) l₀
     unfolding run
     fills_end {i} h t = let z : n - i ≡ 0 = omega arith in sym (t.is ∙ rw z)
-
-    pub fills_length : {i : ℕ} {σ : S} {place : ℕ} {l : List A} → Fills read next f n σ₀ place₀ l₀ i σ place l → length l ≡ length l₀
-    fills_length {i} {σ} {place} {l} t =
-        sym (length-sets l place (map f (run read next i (n - i) σ))) ∙ sym (ap length t.is) ∙ length-sets l₀ place₀ (map f (run read next 0 n σ₀))

@@ -1,28 +1,32 @@
 -- The count of decimal digits. Assumes nothing.
-use mathlib.Core.Path.{◌≡◌, refl}
+use mathlib.Core.Path.{◌≡◌, ap}
 use mathlib.Core.Bool.{Bool, true, false, cond}
-use Prim.Native.Nat.{ℕ, zero, suc, ◌-◌, ◌/◌, ◌<◌, ◌≤◌}
+use Prim.Native.Nat.{ℕ, zero, suc, ◌+◌, ◌*◌, ◌^◌, ◌/◌, ◌<◌, ◌≤◌}
+use native.Mathlib.Nat.{pow-suc, one-le-pow, max-eq_left}
 use native.Mathlib.Omega.{arith}
 use borrow.Author.Tests.{lt-ltb, le-ltb}
 use lib.Dec.{ltb}
+use Rattle.std.specs.Prelude.{max}
 use Rattle.stored_text.specs.Digits.{digit_count}
 
--- a digit more to count, and no more
-pub one_digit_more : (left n : ℕ) → 0 < left → 10 ≤ n → digit_count left n ≡ suc (digit_count (left - 1) (n / 10))
+-- as many digits as the power of ten below, and one more
+power_counted : (most n k : ℕ) → k ≤ most → 10 ^ k ≤ n → n < 10 * 10 ^ k → digit_count most n ≡ suc k
 unfolding digit_count
-one_digit_more zero n h k = absurd (omega arith)
-one_digit_more (suc left) n h k =
-    let e : suc left - 1 ≡ left = omega arith in
-    rw (e, le-ltb n 10 k)
+power_counted zero n k h low high = omega arith
+power_counted (suc most) n zero h low high = let z : n < 10 = omega arith in rw (lt-ltb n 10 z)
+power_counted (suc most) n (suc k) h low high =
+    let low' : 10 ^ k * 10 ≤ n = rw (pow-suc 10 k) at low in
+    let high' : n < 10 * (10 ^ k * 10) = rw (pow-suc 10 k) at high in
+    let one : 1 ≤ 10 ^ k = one-le-pow k 10 (omega arith) in
+    let more : 10 ≤ n = omega arith in
+    rw (le-ltb n 10 more) (ap suc (power_counted most (n / 10) k (omega arith) (omega arith) (omega arith)))
 
-pub one_digit : (left n : ℕ) → n < 10 → digit_count left n ≡ 1
+pub digits_counted : (n k : ℕ) → k < 20 → 10 ^ k ≤ max n 1 → max n 1 < 10 * 10 ^ k → k + 1 ≡ digit_count 19 n
 unfolding digit_count
-one_digit zero n h = refl
-one_digit (suc left) n h = rw (lt-ltb n 10 h)
-
-pub last_digit_counted : (n : ℕ) → digit_count 0 n ≡ 1
-unfolding digit_count
-last_digit_counted n = refl
+digits_counted zero k h low high = omega (arith, power_counted 19 1 k (omega arith) low high)
+digits_counted (suc n) k h low high =
+    let e : max (suc n) 1 ≡ suc n = max-eq_left (omega arith) in
+    omega (arith, power_counted 19 (suc n) k (omega arith) (rw e at low) (rw e at high))
 
 chosen_at_most : (b : Bool) (k m n : ℕ) → m ≤ k → n ≤ k → cond b m n ≤ k
 chosen_at_most true k m n h i = h

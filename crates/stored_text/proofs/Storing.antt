@@ -7,18 +7,13 @@ use native.Mathlib.Numerals.{add-one}
 use native.Mathlib.Omega.{arith}
 use lib.ListN.{length, set, get_or, take, length-append}
 use Rattle.std.proofs.lemmas.List.{length-take-le}
-use lib.Seq.{sets, length-sets, set_comm, sets-eq, take-suc, take_at}
+use lib.Seq.{sets, set_comm, sets-eq, take-suc, take_at}
+use Rattle.repeats.proofs.Stores.{sets_append}
 use Rattle.stored_text.specs.Digits.{digit_byte, digits}
 use Rattle.stored_text.specs.Stored.{Stored}
 use Rattle.stored_text.proofs.Lengths.{length_digits}
 
 -- two texts one after the other
-sets_append : {A : Type 0} (l : List A) (i : ℕ) (xs ys : List A) → sets l i (xs ++ ys) ≡ sets (sets l i xs) (i + length xs) ys
-sets_append l i [] ys = rw add-zero
-sets_append l i (x ∷ xs) ys =
-    let e : suc i + length xs ≡ i + suc (length xs) = omega arith in
-    sets_append (set l i x) (suc i) xs ys ∙ rw e
-
 pub then : {x y z a b : List ℕ} {from p q : ℕ} → Stored x y from p a → Stored y z p q b → Stored x z from q (a ++ b)
 then {x} {y} {z} {a} {b} {from} {p} {q} s t =
     record {
@@ -55,6 +50,3 @@ front {before} {after} {text} {next} s h =
     let e : next ≡ length text = s.place ∙ zero-add _ in
     let k : 0 + length text ≤ length before = omega arith in
     rw (s.list, sets-eq text before 0 k) (take_at text _ next (sym e))
-
-pub stored-length : {x y text : List ℕ} {from next : ℕ} → Stored x y from next text → length y ≡ length x
-stored-length {x} {y} {text} {from} s = rw s.list (length-sets x from text)

@@ -8,23 +8,26 @@ ghost use Rattle.stored_text.specs.Digits.{hexadecimal, decimal, digit_count};
 ghost use Rattle.stored_text.specs.Stored.{Stored};
 
 use hex_digits::bits_of;
-use numerals::{digit_count, put_byte, put_digits};
+use numerals::{digit_count, put_digits};
+use repeats::put;
 
 mod numerals;
 
 /// Puts a text.
+#[tactic(auto, using(crate::proofs::Storing::next_byte, std::proofs::lemmas::List::take_all))]
 pub fn put_text(x: &mut [u8], from: usize, text: &[u8]) -> usize
     requires { from + length text.now ≤ 65536 }
     ensures stored { Stored x.old x.new from result text.now }
     ensures value { result ≡ from + length text.now }
 {
     for (i, byte) in text.iter().enumerate() {
-        put_byte(x, from + i, *byte);
+        put(x, from + i, *byte);
     }
     from + text.len()
 }
 
 /// Puts a double's 16 digits.
+#[tactic(auto, using(crate::proofs::Lengths::length_digits))]
 pub fn put_double(x: &mut [u8], from: usize, v: f64) -> usize
     requires { from ≤ 60000 }
     ensures stored { Stored x.old x.new from result (hexadecimal v) }
@@ -35,6 +38,7 @@ pub fn put_double(x: &mut [u8], from: usize, v: f64) -> usize
 }
 
 /// Puts a count.
+#[tactic(auto, using(crate::proofs::Lengths::length_digits))]
 pub fn put_count(x: &mut [u8], from: usize, n: u64) -> usize
     requires { from ≤ 60000 }
     ensures stored { Stored x.old x.new from result (decimal n) }

@@ -1,16 +1,9 @@
 //! Digits of numbers, put into a slice of bytes from the last to the first.
-ghost use Rattle.std.specs.Prelude.{◌≡◌, ℕ, ◌+◌, ◌<◌, ◌≤◌, set};
+ghost use Rattle.std.specs.Prelude.{◌≡◌, ℕ, ◌+◌, ◌<◌, ◌≤◌};
 ghost use Rattle.std.proofs.lemmas.List.Edits.{sets};
 ghost use Rattle.stored_text.specs.Digits.{digit_byte, digits, digit_count};
 
-/// Stores a byte, unless the place is beyond the end.
-pub fn put_byte(x: &mut [u8], i: usize, v: u8)
-    ensures { x.new ≡ set x.old i v }
-{
-    if i < x.len() {
-        x[i] = v;
-    }
-}
+use repeats::put;
 
 /// The byte of a digit.
 fn digit_byte(d: u64) -> u8
@@ -25,27 +18,23 @@ fn digit_byte(d: u64) -> u8
 }
 
 /// Puts the last `width` digits of `n` from a place on.
+// Kept: Display says which bytes it writes only where it answers Ok, and nothing promises that it does; this cannot fail.
+#[tactic(auto, unfolding(crate::specs::Digits::digits), using(crate::proofs::Storing::last_digit))]
 pub fn put_digits(x: &mut [u8], from: usize, n: u64, radix: u64, width: usize)
     requires { (0 < radix) × ((radix ≤ 16) × (from + width ≤ 65536)) }
     ensures { x.new ≡ sets x.old from (digits radix width n) }
 {
     let mut rest = n;
     for left in (0..width).rev() {
-        put_byte(x, from + left, digit_byte(rest % radix));
+        put(x, from + left, digit_byte(rest % radix));
         rest /= radix;
     }
 }
 
 /// How many decimal digits a number has without leading zeros.
+#[tactic(auto, using(crate::proofs::Numbers::digits_counted))]
 pub fn digit_count(n: u64) -> usize
     ensures { (result ≡ digit_count 19 n) × (result ≤ 20) }
 {
-    let mut rest = n;
-    for count in 1..20 {
-        if rest < 10 {
-            return count;
-        }
-        rest /= 10;
-    }
-    20
+    n.max(1).ilog10() as usize + 1
 }
