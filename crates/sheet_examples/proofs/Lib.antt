@@ -1,2 +1,3 @@
 pub mod Example
 pub mod Lines
+pub mod Texts

@@ -1,10 +1,8 @@
 -- What the lines of document 01's example sheet read as, and some that it has not, by computation. Assumes nothing.
 use mathlib.Core.Path.{◌≡◌, refl}
-use mathlib.Core.List.{List}
 use mathlib.Core.Bool.{true, false}
-use Prim.Native.Nat.{ℕ}
 use lib.ListN.{length}
-use lib.Ieee.{Float, nan, binary64, of_bits}
+use lib.Ieee.{nan, binary64, of_bits}
 use Rattle.std.specs.Prelude.{None, Some}
 use Rattle.text_words.specs.Text.{bytes}
 use Rattle.text_words.specs.Words.{expect, either}
@@ -14,23 +12,7 @@ use Rattle.text_variable_line.specs.Lines.{place_if, variable_from, var_line, sl
 use Rattle.text_rows.specs.Lines.{row_head, no_pair, pair, row_end}
 use Rattle.text_sides.specs.Lines.{no_widened, sided_line, widened_line, leave_line}
 use Rattle.text_multipliers.specs.Lines.{multipliers_line, second_if, rho_line}
-
-abbrev text : List ℕ
-text =
-    bytes "(sheet 1 1)\n(feasibility 0)\n(var i 0 3FF0000000000000 0 0 (nonbasic 3FF0000000000000))\n(slack 0 0 0 0 (basic 0 4000000000000000))\n(row 4008000000000000 3FF0000000000000 (0 3FF0000000000000) (1 3FF0000000000000))\n(multipliers unchecked)\n(rho 3FF0000000000000 0)\n(leave 0 down)\n"
-
--- the doubles on it, by their bits
-abbrev zero : Float
-zero = of_bits binary64 0
-
-abbrev one : Float
-one = of_bits binary64 0x3FF0000000000000
-
-abbrev two : Float
-two = of_bits binary64 0x4000000000000000
-
-abbrev three : Float
-three = of_bits binary64 0x4008000000000000
+use Rattle.sheet_examples.proofs.Texts.{text, zero, one, two, three}
 
 -- "(sheet 1 1)" and "(feasibility 0)"
 heading_is : heading text ≡ record { rows = 1; structurals = 1; feasibility = zero; next = Some 28 }
@@ -85,7 +67,7 @@ unfolding expect either multipliers_line
 multipliers_are = refl
 
 -- "(rho 3FF0000000000000 0)"
-rho_is : rho_line text false (Some 236) ≡ record { hi = one; lo = zero; second = zero; next = Some 261 }
+rho_is : rho_line text 0 (Some 236) ≡ record { hi = one; lo = zero; second = zero; next = Some 261 }
 unfolding digit_at digits at_least_one number double expect second_if rho_line
 rho_is = refl
 
@@ -114,15 +96,15 @@ checked_are : multipliers_line (bytes "(multipliers checked)\n") (Some 0) ≡ re
 unfolding expect either multipliers_line
 checked_are = refl
 
-checked_rho_is : rho_line (bytes "(rho FFF8000000000001 0 3FF0000000000000)\n") true (Some 0) ≡ record { hi = nan; lo = zero; second = one; next = Some 42 }
+checked_rho_is : rho_line (bytes "(rho FFF8000000000001 0 3FF0000000000000)\n") 1 (Some 0) ≡ record { hi = nan; lo = zero; second = one; next = Some 42 }
 unfolding digit_at digits at_least_one number double expect second_if rho_line of_bits
 checked_rho_is = refl
 
 -- a second correction must be there when checked, and only then
-second_is_missing : (rho_line (bytes "(rho 0 0)\n") true (Some 0)).next ≡ None
+second_is_missing : (rho_line (bytes "(rho 0 0)\n") 1 (Some 0)).next ≡ None
 unfolding digit_at digits at_least_one number double expect second_if rho_line
 second_is_missing = refl
 
-second_is_too_much : (rho_line (bytes "(rho 0 0 0)\n") false (Some 0)).next ≡ None
+second_is_too_much : (rho_line (bytes "(rho 0 0 0)\n") 0 (Some 0)).next ≡ None
 unfolding digit_at digits at_least_one number double expect second_if rho_line
 second_is_too_much = refl

@@ -27,7 +27,7 @@ pub record Gathered (text : List ℕ) (head : Heading) (from : Option ℕ) (rows
   pub rows_reach : rows ≡ rows_reached text head.rows from
   pub widened_reach : widened ≡ widened_reached text rows.next
   pub checked_is : checked ≡ multipliers_line text widened.next
-  pub last_is : last ≡ rho_lines_end text checked.value head.rows checked.next
+  pub last_is : last ≡ rho_lines_end text (bool_byte checked.value) head.rows checked.next
   pub leave_is : leave ≡ leave_line text last
 
 module _ {text : List ℕ} {head : Heading} {from : Option ℕ} {rows widened : Reached} {checked : Item Bool} {last : Option ℕ} {leave : SidedLine} (g : Gathered text head from rows widened checked last leave) where
@@ -65,6 +65,6 @@ module _ {text : List ℕ} {head : Heading} {from : Option ℕ} {rows widened : 
   unfolding widened_lines_in rows_reached_in rows_from
   widened_are = rw (g.rows_reach, g.from_is, g.head_is)
 
-  pub rhos_are : rho_lines text checked.value head.rows checked.next ≡ rho_lines_in text
+  pub rhos_are : rho_lines text (bool_byte checked.value) head.rows checked.next ≡ rho_lines_in text
   unfolding rho_lines_in multipliers_in widened_reached_in rows_reached_in rows_from
   rhos_are = rw (g.checked_is, g.widened_reach, g.rows_reach, g.from_is, g.head_is)

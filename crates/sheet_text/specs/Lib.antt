@@ -1,3 +1,4 @@
 pub mod Parts
 pub mod Form
+pub mod Lent
 pub mod SheetIn

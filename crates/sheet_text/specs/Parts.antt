@@ -1,5 +1,6 @@
 -- The parts of a text, "lines in the example's order": document 01, "The sheet". Each begins where the one before it ends. Assumes nothing.
 use Rattle.std.specs.Prelude.{List, ℕ, ◌+◌, Bool, Option}
+use mir.Val.{bool_byte}
 use Rattle.text_words.specs.declared.Item.{Item}
 use Rattle.text_variable_line.specs.declared.variable_lines.VariableLine.{VariableLine}
 use Rattle.text_rows.specs.declared.row_items.Pair.{Pair}
@@ -47,8 +48,8 @@ unfoldable pub multipliers_in : List ℕ → Item Bool
 multipliers_in text = multipliers_line text (widened_reached_in text).next
 
 unfoldable pub rho_lines_in : List ℕ → List RhoLine
-rho_lines_in text = let checked = multipliers_in text in rho_lines text checked.value (heading text).rows checked.next
+rho_lines_in text = let checked = multipliers_in text in rho_lines text (bool_byte checked.value) (heading text).rows checked.next
 
 -- ---- the leaving row's line, the last
 unfoldable pub leave_in : List ℕ → SidedLine
-leave_in text = let checked = multipliers_in text in leave_line text (rho_lines_end text checked.value (heading text).rows checked.next)
+leave_in text = let checked = multipliers_in text in leave_line text (rho_lines_end text (bool_byte checked.value) (heading text).rows checked.next)

@@ -1,1 +1,3 @@
 pub mod Reaching
+pub mod Storing
+pub mod Slices

@@ -8,9 +8,7 @@ use lib.ListN.{length}
 use Rattle.repeats.specs.Chained.{chain_end}
 use Rattle.repeats.proofs.Gathers.{gather_counts}
 use Rattle.text_words.specs.Words.{most_bytes}
-use Rattle.text_rows.specs.declared.row_items.RowHead.{RowHead}
 use Rattle.text_sides.specs.Lines.{no_widened, widened_line}
-use Rattle.text_rows.specs.Lines.{row_head, row_end}
 use Rattle.text_lists.specs.declared.widened_list.Reached.{Reached}
 use Rattle.text_lists.specs.declared.row_lists.RowLine.{RowLine}
 use Rattle.text_lists.specs.Widened.{after_widened, widened_lines, widened_reached}
@@ -25,17 +23,6 @@ pub pairs_reached_lem : (text : List ℕ) (first : ℕ) (position : Option ℕ) 
     → next ≡ pairs_end text first position → record { count = count; next = next } ≡ pairs_reached text first position
 unfolding pairs_reached
 pairs_reached_lem text first position h e = rw (h, e)
-
--- the line of a row, from its parts as the code reads them
-module _ (text : List ℕ) (first : ℕ) (position : Option ℕ) {head : RowHead} (h : head ≡ row_head text position) where
-  pub row_line_is : {reached : Reached} {next : Option ℕ} → reached ≡ pairs_reached text first head.next → next ≡ row_end text reached.next
-      → record { right = head.right; scale = head.scale; end = reached.count; next = next } ≡ row_line text first position
-  unfolding row_line
-  row_line_is e k = rw (k, e, h)
-
-  pub row_pairs_is : pairs text first head.next ≡ row_pairs text first position
-  unfolding row_pairs
-  row_pairs_is = rw h
 
 -- a row's end is the number of pairs before it and its own
 pub row_moves : (text : List ℕ) (first : ℕ) (position : Option ℕ) {row : RowLine} → row ≡ row_line text first position → row.end ≡ first + length (row_pairs text first position)

@@ -1,3 +1,4 @@
 pub mod Rows
 pub mod Widened
 pub mod Multipliers
+pub mod Lent

@@ -3,10 +3,12 @@
 
 #![tactic(auto)]
 
+mod lent;
 mod multiplier_list;
 mod row_lists;
 mod widened_list;
 
+pub use lent::{RhoLists, RowLists, WidenedLists};
 pub use multiplier_list::read_multipliers;
 pub use row_lists::{RowLine, read_rows};
 pub use widened_list::{Reached, read_widened};

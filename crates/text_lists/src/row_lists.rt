@@ -1,13 +1,12 @@
 //! The rows, each with its pairs of a column and an entry.
-ghost use Rattle.std.specs.Prelude.{◌≡◌, set};
-ghost use Rattle.repeats.specs.Filled.{column, filled_from};
-ghost use Rattle.text_rows.specs.declared.row_items.Pair.{Pair};
-ghost use Rattle.text_lists.specs.declared.row_lists.RowLine.{RowLine};
+ghost use Rattle.std.specs.Prelude.{◌≡◌, ◌+◌, ◌<◌, ◌^◌};
+ghost use Rattle.text_lists.specs.Lent.{SameRows, lent_rows, with_pair, with_pairs, with_row, with_rows};
 ghost use Rattle.text_lists.specs.Rows.{pairs, pairs_reached, row_pairs, row_line, row_lines, rows_pairs, rows_reached};
 
+use crate::lent::RowLists;
 use crate::widened_list::Reached;
 use repeats::put;
-use text_rows::{no_pair, pair_at, row_end, row_head};
+use text_rows::{Pair, no_pair, pair_at, row_end, row_head};
 use text_words::MOST_BYTES;
 
 /// What a row's line says of it.
@@ -21,48 +20,45 @@ pub struct RowLine {
     pub next: Option<usize>,
 }
 
+// A pair, stored as the i-th entry.
+fn store_pair(i: usize, item: Pair, l: &mut RowLists)
+    ensures same_slices { SameRows l.old l.new }
+    ensures value { lent_rows l.new ≡ with_pair i item (lent_rows l.old) }
+{
+    put(l.columns, i, item.column);
+    put(l.entries, i, item.entry);
+}
+
 // The pairs from a position on, stored behind the `first` that the sheet has before them.
-fn read_pairs(
-    text: &[u8],
-    position: Option<usize>,
-    first: usize,
-    columns: &mut [usize],
-    entries: &mut [f64],
-) -> Reached
+fn read_pairs(text: &[u8], position: Option<usize>, first: usize, l: &mut RowLists) -> Reached
     ensures value { result ≡ pairs_reached text.now first position }
-    ensures columns_after { columns.new ≡ filled_from first (λ (item : Pair). item.column) (pairs text.now first position) columns.old }
-    ensures entries_after { entries.new ≡ filled_from first (λ (item : Pair). item.entry) (pairs text.now first position) entries.old }
+    ensures same_slices { SameRows l.old l.new }
+    ensures lists { lent_rows l.new ≡ with_pairs first (pairs text.now first position) (lent_rows l.old) }
 {
     let mut next = position;
-    let mut count = first;
-    // Kept: the count is part of the answer, and a `for`'s is gone after the loop.
-    while count < MOST_BYTES {
+    for count in first..MOST_BYTES {
         if no_pair(text, next) {
-            break;
+            return Reached { count, next };
         }
         let item = pair_at(text, next);
-        put(columns, count, item.column);
-        put(entries, count, item.entry);
+        store_pair(count, item, l);
         next = item.next;
-        count += 1;
     }
-    Reached { count, next }
+    Reached {
+        count: first.max(MOST_BYTES),
+        next,
+    }
 }
 
 // The line of a row.
-fn read_row(
-    text: &[u8],
-    position: Option<usize>,
-    first: usize,
-    columns: &mut [usize],
-    entries: &mut [f64],
-) -> RowLine
+#[tactic(auto, unfolding(crate::specs::Rows::row_line, crate::specs::Rows::row_pairs))]
+fn read_row(text: &[u8], position: Option<usize>, first: usize, l: &mut RowLists) -> RowLine
     ensures value { result ≡ row_line text.now first position }
-    ensures columns_after { columns.new ≡ filled_from first (λ (item : Pair). item.column) (row_pairs text.now first position) columns.old }
-    ensures entries_after { entries.new ≡ filled_from first (λ (item : Pair). item.entry) (row_pairs text.now first position) entries.old }
+    ensures same_slices { SameRows l.old l.new }
+    ensures lists { lent_rows l.new ≡ with_pairs first (row_pairs text.now first position) (lent_rows l.old) }
 {
     let head = row_head(text, position);
-    let reached = read_pairs(text, head.next, first, columns, entries);
+    let reached = read_pairs(text, head.next, first, l);
     RowLine {
         right: head.right,
         scale: head.scale,
@@ -71,34 +67,31 @@ fn read_row(
     }
 }
 
+// What the i-th row's line says of it, stored.
+fn store_row(i: usize, row: RowLine, l: &mut RowLists)
+    requires { i + 1 < 2 ^ 64 }
+    ensures same_slices { SameRows l.old l.new }
+    ensures value { lent_rows l.new ≡ with_row i row (lent_rows l.old) }
+{
+    put(l.right_sides, i, row.right);
+    put(l.scales, i, row.scale);
+    put(l.starts, i + 1, row.end);
+}
+
 /// The lines of the rows from a position on. The end of row i is stored at the place i + 1 of `starts`; its first place,
 /// where the first row starts, is the caller's.
-pub fn read_rows(
-    text: &[u8],
-    position: Option<usize>,
-    rows: usize,
-    right_sides: &mut [f64],
-    scales: &mut [f64],
-    starts: &mut [usize],
-    columns: &mut [usize],
-    entries: &mut [f64],
-) -> Reached
+pub fn read_rows(text: &[u8], position: Option<usize>, rows: usize, l: &mut RowLists) -> Reached
     ensures value { result ≡ rows_reached text.now rows position }
-    ensures right_sides_after { right_sides.new ≡ column (λ (row : RowLine). row.right) (row_lines text.now rows position) right_sides.old }
-    ensures scales_after { scales.new ≡ column (λ (row : RowLine). row.scale) (row_lines text.now rows position) scales.old }
-    ensures starts_after { starts.new ≡ filled_from 1 (λ (row : RowLine). row.end) (row_lines text.now rows position) starts.old }
-    ensures columns_after { columns.new ≡ column (λ (item : Pair). item.column) (rows_pairs text.now rows position) columns.old }
-    ensures entries_after { entries.new ≡ column (λ (item : Pair). item.entry) (rows_pairs text.now rows position) entries.old }
+    ensures same_slices { SameRows l.old l.new }
+    ensures lists { lent_rows l.new ≡ with_rows (row_lines text.now rows position) (rows_pairs text.now rows position) (lent_rows l.old) }
 {
     let mut next = position;
     let mut count = 0;
     for i in 0..rows {
-        let row = read_row(text, next, count, columns, entries);
-        put(right_sides, i, row.right);
-        put(scales, i, row.scale);
+        let row = read_row(text, next, count, l);
+        store_row(i, row, l);
         next = row.next;
         count = row.end;
-        put(starts, i + 1, row.end);
     }
     Reached { count, next }
 }

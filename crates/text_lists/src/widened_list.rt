@@ -1,12 +1,11 @@
 //! The widened lines, as many as stand there.
 ghost use Rattle.std.specs.Prelude.{◌≡◌};
-ghost use mir.Val.{bool_byte};
-ghost use Rattle.repeats.specs.Filled.{column};
-ghost use Rattle.text_sides.specs.declared.sided_lines.SidedLine.{SidedLine};
+ghost use Rattle.text_lists.specs.Lent.{SameWidened, lent_widened, with_widened_line, with_widened_lines};
 ghost use Rattle.text_lists.specs.Widened.{widened_lines, widened_reached};
 
+use crate::lent::WidenedLists;
 use repeats::put;
-use text_sides::{no_widened, widened_line};
+use text_sides::{SidedLine, no_widened, widened_line};
 use text_words::MOST_BYTES;
 
 /// How far a list was read.
@@ -18,29 +17,32 @@ pub struct Reached {
     pub next: Option<usize>,
 }
 
+// A line, stored as the i-th.
+fn store_widened(i: usize, line: SidedLine, l: &mut WidenedLists)
+    ensures same_slices { SameWidened l.old l.new }
+    ensures value { lent_widened l.new ≡ with_widened_line i line (lent_widened l.old) }
+{
+    put(l.variables, i, line.number);
+    put(l.ups, i, u8::from(line.up));
+}
+
 /// The widened lines from a position on.
-pub fn read_widened(
-    text: &[u8],
-    position: Option<usize>,
-    variables: &mut [usize],
-    ups: &mut [u8],
-) -> Reached
+pub fn read_widened(text: &[u8], position: Option<usize>, l: &mut WidenedLists) -> Reached
     ensures value { result ≡ widened_reached text.now position }
-    ensures variables_after { variables.new ≡ column (λ (line : SidedLine). line.number) (widened_lines text.now position) variables.old }
-    ensures ups_after { ups.new ≡ column (λ (line : SidedLine). bool_byte line.up) (widened_lines text.now position) ups.old }
+    ensures same_slices { SameWidened l.old l.new }
+    ensures lists { lent_widened l.new ≡ with_widened_lines (widened_lines text.now position) (lent_widened l.old) }
 {
     let mut next = position;
-    let mut count = 0;
-    // Kept: the count is part of the answer, and a `for`'s is gone after the loop.
-    while count < MOST_BYTES {
+    for count in 0..MOST_BYTES {
         if no_widened(text, next) {
-            break;
+            return Reached { count, next };
         }
         let line = widened_line(text, next);
-        put(variables, count, line.number);
-        put(ups, count, u8::from(line.up));
+        store_widened(count, line, l);
         next = line.next;
-        count += 1;
     }
-    Reached { count, next }
+    Reached {
+        count: MOST_BYTES,
+        next,
+    }
 }

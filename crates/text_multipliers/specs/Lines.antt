@@ -1,5 +1,5 @@
 -- The lines of the multipliers, each read at a position: document 01, "The sheet". Assumes nothing.
-use Rattle.std.specs.Prelude.{ℕ, List, Bool, cond, Option, Float}
+use Rattle.std.specs.Prelude.{ℕ, List, Bool, cond, Option, Float, eqb}
 use Rattle.std.specs.Float.{binary64}
 use Rattle.std.specs.Float.Ieee.{of_bits}
 use Rattle.text_words.specs.declared.Item.{Item}
@@ -14,15 +14,15 @@ unfoldable pub multipliers_line : List ℕ → Option ℕ → Item Bool
 multipliers_line text position =
     either text (expect text position (bytes "(multipliers ")) (bytes "checked)\n") (bytes "unchecked)\n")
 
--- "When `(multipliers checked)`, each rho gains its second correction", with the space before it; else +0
-unfoldable pub second_if : List ℕ → Bool → Option ℕ → Item Float
+-- "When `(multipliers checked)`, each rho gains its second correction", with the space before it; else +0. The flag is set unless 0
+unfoldable pub second_if : List ℕ → ℕ → Option ℕ → Item Float
 second_if text checked position =
-    cond checked
-    (double text (expect text position (bytes " ")))
+    cond (eqb checked 0)
     (record { value = of_bits binary64 0; next = position })
+    (double text (expect text position (bytes " ")))
 
 -- "rho: hi, lo"
-unfoldable pub rho_line : List ℕ → Bool → Option ℕ → RhoLine
+unfoldable pub rho_line : List ℕ → ℕ → Option ℕ → RhoLine
 rho_line text checked position =
     let hi = double_then text (expect text position (bytes "(rho ")) (bytes " ") in
     let lo = double text hi.next in

@@ -32,22 +32,22 @@ pub fn multipliers_line(text: &[u8], position: Option<usize>) -> Item<bool>
 
 // The second correction of a checked multiplier.
 #[tactic(auto, unfolding(crate::specs::Lines::second_if))]
-fn second_if(text: &[u8], checked: bool, position: Option<usize>) -> Item<f64>
+fn second_if(text: &[u8], checked: u8, position: Option<usize>) -> Item<f64>
     ensures { result ≡ second_if text.now checked position }
 {
-    if checked {
-        double_at(text, expect(text, position, b" "))
-    } else {
+    if checked == 0 {
         Item {
             value: 0.0,
             next: position,
         }
+    } else {
+        double_at(text, expect(text, position, b" "))
     }
 }
 
-/// The line of a multiplier.
+/// The line of a multiplier; the multipliers are checked unless `checked` is 0.
 #[tactic(auto, unfolding(crate::specs::Lines::rho_line))]
-pub fn rho_line(text: &[u8], checked: bool, position: Option<usize>) -> RhoLine
+pub fn rho_line(text: &[u8], checked: u8, position: Option<usize>) -> RhoLine
     ensures { result ≡ rho_line text.now checked position }
 {
     let hi = double_space(text, expect(text, position, b"(rho "));

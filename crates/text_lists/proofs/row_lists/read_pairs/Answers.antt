@@ -1,32 +1,34 @@
 -- `read_pairs` meets its contract. Assumes nothing.
-use mathlib.Core.Path.{refl, sym, ◌∙◌}
+use native.Mathlib.Omega.{arith}
+use mathlib.Core.Path.{◌≡◌, sym, ◌∙◌}
 use mathlib.Core.Logic.{inl, inr}
-use Rattle.repeats.proofs.Chains.{Over, chain_leads_turn, chain_leads_end, chain_counts_turn, chain_counts_end, chain_fills_turn, chain_fills_end}
+use Rattle.repeats.proofs.Chains.{Over, chain_leads_turn, chain_leads_end, chain_counts_turn, chain_counts_end}
 use Rattle.text_words.specs.Words.{most_bytes}
 use Rattle.text_rows.specs.Lines.{no_pair}
 use Rattle.text_lists.proofs.Reaching.{pairs_reached_lem}
+use Rattle.text_lists.proofs.Slices.{rows_then}
+use Rattle.text_lists.proofs.Storing.{chain_left_turn, chain_left_end, pairs_store}
 use Rattle.text_lists.proofs.row_lists.read_pairs.Goals as goal
-
-pub loop-count-init : goal.loop-count-init
-loop-count-init c = record { leads = record { is = refl }; counts = record { is = refl }; in_columns = record { is = refl }; in_entries = record { is = refl } }
 
 pub loop-count-preserved : goal.loop-count-preserved
 loop-count-preserved c =
     let k = sym c.no_pair.ensures ∙ c.if-no_pair.false in
     record {
+      most = omega (arith, c.loop-count-test.true);
       leads = chain_leads_turn c.loop-count-test.true k c.pair_at-item.ensures c.loop-count.invariant.leads;
       counts = chain_counts_turn c.loop-count-test.true k c.pair_at-item.ensures c.loop-count.invariant.counts;
-      in_columns = chain_fills_turn c.loop-count-test.true k c.pair_at-item.ensures c.put.ensures c.loop-count.invariant.in_columns;
-      in_entries = chain_fills_turn c.loop-count-test.true k c.pair_at-item.ensures c.put-in-loop-count.ensures c.loop-count.invariant.in_entries;
+      same = rows_then c.loop-count.invariant.same c.store_pair.ensures.same_slices;
+      lists = chain_left_turn pairs_store c.loop-count-test.true k c.pair_at-item.ensures c.store_pair.ensures.value c.loop-count.invariant.lists;
     }
 
-pub returns-after-loop-count : goal.returns-after-loop-count
-returns-after-loop-count c =
+pub returns : goal.returns
+returns c =
     let o : Over (no_pair c.args.text.now) most_bytes c.loop-count.count c.loop-count.next = record { why = inl c.loop-count-test.false } in
+    let last : c.max.result ≡ c.loop-count.count = omega (arith, c.max.ensures, c.loop-count.invariant.most, c.loop-count-test.false, c.loop-count.auto.count) in
     record {
-      value = pairs_reached_lem c.args.text.now c.args.first c.args.position (chain_counts_end o c.loop-count.invariant.counts) (chain_leads_end o c.loop-count.invariant.leads);
-      columns_after = chain_fills_end o c.loop-count.invariant.in_columns;
-      entries_after = chain_fills_end o c.loop-count.invariant.in_entries;
+      value = rw last (pairs_reached_lem c.args.text.now c.args.first c.args.position (chain_counts_end o c.loop-count.invariant.counts) (chain_leads_end o c.loop-count.invariant.leads));
+      same_slices = c.loop-count.invariant.same;
+      lists = chain_left_end pairs_store o c.loop-count.invariant.lists;
     }
 
 pub returns-then-no_pair : goal.returns-then-no_pair
@@ -34,6 +36,6 @@ returns-then-no_pair c =
     let o : Over (no_pair c.args.text.now) most_bytes c.loop-count.count c.loop-count.next = record { why = inr (sym c.no_pair.ensures ∙ c.if-no_pair.true) } in
     record {
       value = pairs_reached_lem c.args.text.now c.args.first c.args.position (chain_counts_end o c.loop-count.invariant.counts) (chain_leads_end o c.loop-count.invariant.leads);
-      columns_after = chain_fills_end o c.loop-count.invariant.in_columns;
-      entries_after = chain_fills_end o c.loop-count.invariant.in_entries;
+      same_slices = c.loop-count.invariant.same;
+      lists = chain_left_end pairs_store o c.loop-count.invariant.lists;
     }

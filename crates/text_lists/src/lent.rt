@@ -1,0 +1,26 @@
+//! The lists behind the variables, as they are lent.
+
+/// What goes by rows, and the entries of all rows; a row's entries start where those of the row before end.
+#[derive(Drop)]
+pub struct RowLists<'a> {
+    pub right_sides: &'a mut [f64],
+    pub scales: &'a mut [f64],
+    pub starts: &'a mut [usize],
+    pub columns: &'a mut [usize],
+    pub entries: &'a mut [f64],
+}
+
+/// The widened items: each names a variable and a side.
+#[derive(Drop)]
+pub struct WidenedLists<'a> {
+    pub variables: &'a mut [usize],
+    pub ups: &'a mut [u8],
+}
+
+/// The multipliers, one for each row.
+#[derive(Drop)]
+pub struct RhoLists<'a> {
+    pub rho_hi: &'a mut [f64],
+    pub rho_lo: &'a mut [f64],
+    pub second: &'a mut [f64],
+}
