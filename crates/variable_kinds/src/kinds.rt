@@ -10,7 +10,7 @@ pub fn is_widened(vars: &[usize], ups: &[u8], v: usize, up: bool) -> bool
 {
     vars.iter()
         .zip(ups)
-        .any(|(variable, side)| (*variable == v) & ((*side != 0) == up))
+        .any(|(variable, side)| *variable == v && (*side != 0) == up)
 }
 
 /// Whether `v` is an integer structural variable.
@@ -45,6 +45,6 @@ pub fn leaving_variable(basic: &[u8], places: &[usize], leaving_row: usize) -> u
     basic
         .iter()
         .zip(places)
-        .position(|(flag, place)| (*flag != 0) & (*place == leaving_row))
+        .position(|(flag, place)| *flag != 0 && *place == leaving_row)
         .unwrap_or(basic.len())
 }
