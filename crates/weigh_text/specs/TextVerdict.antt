@@ -2,10 +2,20 @@
 use Rattle.std.specs.Prelude.{cond, List, ℕ, Result, Ok, Err}
 use Rattle.printer.specs.declared.Lines.{Lines}
 use Rattle.printer.specs.Answer.{nine_lines, refusal_line}
+use Rattle.sheet.specs.Sheet.{Sheet, sheet}
 use Rattle.verdict.specs.declared.Verdict.{Verdict}
 use Rattle.verdict.specs.Verdict.{verdict}
 use Rattle.sheet_text.specs.Form.{follows_form}
-use Rattle.sheet_text.specs.SheetIn.{sheet_in}
+use Rattle.sheet_text.specs.declared.Read.{Read}
+use Rattle.sheet_text.specs.Lent.{SheetLists}
+use Rattle.sheet_text.specs.SheetIn.{lent_outputs, sheet_in}
+
+-- the sheet with these lists, of what was read apart from them
+abbrev pub sheet_with : Read → SheetLists → Sheet
+sheet_with r l =
+    sheet (record { rows = r.rows; structurals = r.structurals; entries = r.entries }) r.feasibility r.checked r.leaving_row r.leaving_up lent_outputs
+    l.rows.starts l.rows.columns l.rows.entries l.rows.right_sides l.rows.scales l.variables.integer l.variables.mins l.variables.maxs l.variables.low_tolerances
+    l.variables.high_tolerances l.variables.basic l.variables.places l.variables.values l.widened.variables l.widened.ups l.rhos.rho_hi l.rhos.rho_lo l.rhos.second
 
 -- "1. Does the file follow the sheet form, in at most 65,536 bytes?", then the other questions and the verdict on the sheet that it says
 unfoldable pub text_verdict : List ℕ → Result Verdict ℕ

@@ -3,17 +3,60 @@ ghost use Rattle.std.specs.Prelude.{◌≡◌, IfOk, T};
 ghost use Rattle.refusal_numbers.specs.Numbers.{numbered};
 ghost use Rattle.gaps.specs.Rows.{ranges_of, rows_of};
 ghost use Rattle.gaps.specs.ThirdDemand.{NoPoint};
+ghost use Rattle.sheet_text.specs.Lent.{lent_lists};
 ghost use Rattle.sheet_text.specs.SheetIn.{sheet_in};
-ghost use Rattle.weigh_text.specs.TextVerdict.{text_verdict};
+ghost use Rattle.many_widened.specs.Fewest.{fewest};
+ghost use Rattle.front_verdict.specs.Fronts.{HasRoom, front_verdict, fronts};
+ghost use Rattle.weigh_text.specs.TextVerdict.{sheet_with, text_verdict};
 
 use front_verdict::{MOST_VARIABLES, verdict_on};
 use many_widened::MOST_WIDENED;
 use questions::{MOST_ENTRIES, MOST_ROWS, MOST_STRUCTURALS};
 use refusal_numbers::Refusal;
 use sheet::Sheet;
-use sheet_text::{follows_form, read_sheet};
+use sheet_text::{Read, SheetLists, follows_form, read_sheet};
+use text_lists::{RhoLists, RowLists, WidenedLists};
+use text_variables::VariableLists;
 use verdict::Verdict;
 
+// The verdict on the sheet at the fronts of lists that a text was read into.
+fn verdict_in(read: Read, l: &SheetLists) -> Result<Verdict, Refusal>
+    requires { HasRoom (sheet_with read (lent_lists l.now)) }
+    ensures value { numbered result ≡ front_verdict read.widened (sheet_with read (lent_lists l.now)) }
+    ensures no_point { IfOk result (λ v. T v.declined → NoPoint (rows_of (fronts (fewest read.widened) (sheet_with read (lent_lists l.now)))) (ranges_of (fronts (fewest read.widened) (sheet_with read (lent_lists l.now))))) }
+{
+    let s = Sheet {
+        rows: read.rows,
+        structurals: read.structurals,
+        entry_count: read.entries,
+        feasibility: read.feasibility,
+        checked: read.checked,
+        leaving_row: read.leaving_row,
+        leaving_up: read.leaving_up,
+        starts: l.rows.starts,
+        columns: l.rows.columns,
+        entries: l.rows.entries,
+        right_sides: l.rows.right_sides,
+        scales: l.rows.scales,
+        integer: l.variables.integer,
+        mins: l.variables.mins,
+        maxs: l.variables.maxs,
+        low_tolerances: l.variables.low_tolerances,
+        high_tolerances: l.variables.high_tolerances,
+        basic: l.variables.basic,
+        places: l.variables.places,
+        values: l.variables.values,
+        widened_variables: l.widened.variables,
+        widened_ups: l.widened.ups,
+        rho_hi: l.rhos.rho_hi,
+        rho_lo: l.rhos.rho_lo,
+        second: l.rhos.second,
+    };
+    verdict_on(&s, read.widened)
+}
+
+// Kept: the lists are eighteen arrays of this function: a struct that owns them is built from the same arrays, and twice the room on the stack is more
+// than a device has.
 /// The text is read into lists of this function's own, so nothing lent changes. They have room for the largest sheet that
 /// the second question allows; of a longer one the rest is read and not kept.
 pub fn text_verdict(text: &[u8]) -> Result<Verdict, Refusal>
@@ -38,56 +81,37 @@ pub fn text_verdict(text: &[u8]) -> Result<Verdict, Refusal>
     let mut rho_hi = [0.0; MOST_ROWS];
     let mut rho_lo = [0.0; MOST_ROWS];
     let mut second = [0.0; MOST_ROWS];
-    let read = read_sheet(
-        text,
-        &mut starts,
-        &mut columns,
-        &mut entries,
-        &mut right_sides,
-        &mut scales,
-        &mut integer,
-        &mut mins,
-        &mut maxs,
-        &mut low_tolerances,
-        &mut high_tolerances,
-        &mut basic,
-        &mut places,
-        &mut values,
-        &mut widened_vars,
-        &mut widened_ups,
-        &mut rho_hi,
-        &mut rho_lo,
-        &mut second,
-    );
+    let mut l = SheetLists {
+        variables: VariableLists {
+            integer: &mut integer,
+            mins: &mut mins,
+            maxs: &mut maxs,
+            low_tolerances: &mut low_tolerances,
+            high_tolerances: &mut high_tolerances,
+            basic: &mut basic,
+            places: &mut places,
+            values: &mut values,
+        },
+        rows: RowLists {
+            right_sides: &mut right_sides,
+            scales: &mut scales,
+            starts: &mut starts,
+            columns: &mut columns,
+            entries: &mut entries,
+        },
+        widened: WidenedLists {
+            variables: &mut widened_vars,
+            ups: &mut widened_ups,
+        },
+        rhos: RhoLists {
+            rho_hi: &mut rho_hi,
+            rho_lo: &mut rho_lo,
+            second: &mut second,
+        },
+    };
+    let read = read_sheet(text, &mut l);
     if !follows_form(text.len(), read.next) {
         return Err(Refusal::Form);
     }
-    let s = Sheet {
-        rows: read.rows,
-        structurals: read.structurals,
-        entry_count: read.entries,
-        feasibility: read.feasibility,
-        checked: read.checked,
-        leaving_row: read.leaving_row,
-        leaving_up: read.leaving_up,
-        starts: &starts,
-        columns: &columns,
-        entries: &entries,
-        right_sides: &right_sides,
-        scales: &scales,
-        integer: &integer,
-        mins: &mins,
-        maxs: &maxs,
-        low_tolerances: &low_tolerances,
-        high_tolerances: &high_tolerances,
-        basic: &basic,
-        places: &places,
-        values: &values,
-        widened_variables: &widened_vars,
-        widened_ups: &widened_ups,
-        rho_hi: &rho_hi,
-        rho_lo: &rho_lo,
-        second: &second,
-    };
-    verdict_on(&s, read.widened)
+    verdict_in(read, &l)
 }
