@@ -23,7 +23,7 @@ use verdict::Verdict;
 fn verdict_in(read: Read, l: &SheetLists) -> Result<Verdict, Refusal>
     requires { HasRoom (sheet_with read (lent_lists l.now)) }
     ensures value { numbered result ≡ front_verdict read.widened (sheet_with read (lent_lists l.now)) }
-    ensures no_point { IfOk result (λ v. T v.declined → NoPoint (rows_of (fronts (fewest read.widened) (sheet_with read (lent_lists l.now)))) (ranges_of (fronts (fewest read.widened) (sheet_with read (lent_lists l.now))))) }
+    ensures no_point { let s = fronts (fewest read.widened) (sheet_with read (lent_lists l.now)) in IfOk result (λ v. T v.declined → NoPoint (rows_of s) (ranges_of s)) }
 {
     let s = Sheet {
         rows: read.rows,
