@@ -25,7 +25,7 @@ pub const MOST_VARIABLES: usize = MOST_STRUCTURALS + MOST_ROWS;
 pub fn verdict_on(s: &Sheet, widened: usize) -> Result<Verdict, Refusal>
     requires { HasRoom (lent_sheet s.now lent_outputs) }
     ensures value { numbered result ≡ front_verdict widened (lent_sheet s.now lent_outputs) }
-    ensures no_point { IfOk result (λ v. T v.declined → NoPoint (rows_of (fronts (fewest widened) (lent_sheet s.now lent_outputs))) (ranges_of (fronts (fewest widened) (lent_sheet s.now lent_outputs)))) }
+    ensures no_point { let front = fronts (fewest widened) (lent_sheet s.now lent_outputs) in IfOk result (λ v. T v.declined → NoPoint (rows_of front) (ranges_of front)) }
 {
     if !sizes_fine(s) {
         return Err(Refusal::Sizes);

@@ -30,7 +30,8 @@ pub record Gathered (text : List ℕ) (head : Heading) (from : Option ℕ) (rows
   pub last_is : last ≡ rho_lines_end text (bool_byte checked.value) head.rows checked.next
   pub leave_is : leave ≡ leave_line text last
 
-module _ {text : List ℕ} {head : Heading} {from : Option ℕ} {rows widened : Reached} {checked : Item Bool} {last : Option ℕ} {leave : SidedLine} (g : Gathered text head from rows widened checked last leave) where
+module _ {text : List ℕ} {head : Heading} {from : Option ℕ} {rows widened : Reached} {checked : Item Bool} {last : Option ℕ} {leave : SidedLine}
+    (g : Gathered text head from rows widened checked last leave) where
   pub read_is : record {
     rows = head.rows;
     structurals = head.structurals;

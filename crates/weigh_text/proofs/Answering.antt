@@ -32,7 +32,8 @@ module _ (text : List ℕ) where
       ∙ ap (λ (b : Bool). cond b (nine_lines l) (refusal_line (number_of refusal))) (not_zero refusal refl)
       ∙ ap printed is
 
-  pub answer_is : (before : List ℕ) (number : ℕ) (l : Lines) {r : ℕ} {now : List ℕ} → answer_text number l ≡ text_answer text → r ≡ length (answer_text number l) → now ≡ written_if_fits (answer_text number l) before
+  pub answer_is : (before : List ℕ) (number : ℕ) (l : Lines) {r : ℕ} {now : List ℕ} → answer_text number l ≡ text_answer text
+      → r ≡ length (answer_text number l) → now ≡ written_if_fits (answer_text number l) before
       → (r ≡ length (text_answer text)) × ((now ≡ written_if_fits (text_answer text) before) × (r ≤ most_answer))
   answer_is before number l is long stored = (
     long ∙ ap length is,

@@ -86,7 +86,8 @@ module _ (text : List ℕ) (room : SheetLists) where
       → take (fewest (read_in text).widened) (column f (widened_lines_in text) before) ≡ take most_widened (map f (widened_lines_in text))
   widened_front f before h =
       rw (sym (widened_long text))
-      (front_of f (widened_lines_in text) before (fewest (length (widened_lines_in text))) (omega (arith, fewest_most (length (widened_lines_in text)))) (fewest-within (length (widened_lines_in text)))
+      (front_of f (widened_lines_in text) before (fewest (length (widened_lines_in text))) (omega (arith, fewest_most (length (widened_lines_in text))))
+      (fewest-within (length (widened_lines_in text)))
       ∙ ap (map f) (fewest_takes (widened_lines_in text))
       ∙ sym (take_map f most_widened (widened_lines_in text)))
 

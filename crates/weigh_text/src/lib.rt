@@ -32,6 +32,7 @@ const NO_LINES: Lines = Lines {
     declined: false,
 };
 
+// Kept: both types are other crates', where an `impl From` is refused here; a struct of this crate round `Lines` for it is no plainer than a function.
 /// The values of the nine lines.
 fn lines_of(v: Verdict) -> Lines
     ensures { result ≡ lines_of v }

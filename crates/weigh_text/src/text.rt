@@ -23,7 +23,7 @@ use verdict::Verdict;
 fn verdict_in(read: Read, l: &SheetLists) -> Result<Verdict, Refusal>
     requires { HasRoom (sheet_with read (lent_lists l.now)) }
     ensures value { numbered result ≡ front_verdict read.widened (sheet_with read (lent_lists l.now)) }
-    ensures no_point { IfOk result (λ v. T v.declined → NoPoint (rows_of (fronts (fewest read.widened) (sheet_with read (lent_lists l.now)))) (ranges_of (fronts (fewest read.widened) (sheet_with read (lent_lists l.now))))) }
+    ensures no_point { let s = fronts (fewest read.widened) (sheet_with read (lent_lists l.now)) in IfOk result (λ v. T v.declined → NoPoint (rows_of s) (ranges_of s)) }
 {
     let s = Sheet {
         rows: read.rows,
@@ -55,8 +55,7 @@ fn verdict_in(read: Read, l: &SheetLists) -> Result<Verdict, Refusal>
     verdict_on(&s, read.widened)
 }
 
-// Kept: the lists are eighteen arrays of this function: a struct that owns them is built from the same arrays, and twice the room on the stack is more
-// than a device has.
+// Kept: eighteen local arrays: a struct that owns them lists each again, in its type and where it is built, and is no plainer.
 /// The text is read into lists of this function's own, so nothing lent changes. They have room for the largest sheet that
 /// the second question allows; of a longer one the rest is read and not kept.
 pub fn text_verdict(text: &[u8]) -> Result<Verdict, Refusal>
