@@ -128,9 +128,21 @@ pub extern "C" fn sheet_verdict<'a>(
     rho_lo: &'a [f64],
     second: &'a [f64],
 ) -> Verdict
-    ensures value { result ≡ verdict (sheet (sizes rows structurals entry_count) feasibility checked leaving_row leaving_up (outputs (lists high.old low.old magnitudes.old terms.old) errors.old) starts.now columns.now entries.now right_sides.now scales.now integer.now mins.now maxs.now low_tolerances.now high_tolerances.now basic.now places.now values.now (variables_of widened.now) (ups_of widened.now) rho_hi.now rho_lo.now second.now) }
-    ensures lent_after { lent (lists high.new low.new magnitudes.new terms.new) errors.new ≡ after (sheet (sizes rows structurals entry_count) feasibility checked leaving_row leaving_up (outputs (lists high.old low.old magnitudes.old terms.old) errors.old) starts.now columns.now entries.now right_sides.now scales.now integer.now mins.now maxs.now low_tolerances.now high_tolerances.now basic.now places.now values.now (variables_of widened.now) (ups_of widened.now) rho_hi.now rho_lo.now second.now) (lent (lists high.old low.old magnitudes.old terms.old) errors.old) }
-    ensures no_point { T result.declined → NoPoint (rows_of (sheet (sizes rows structurals entry_count) feasibility checked leaving_row leaving_up (outputs (lists high.old low.old magnitudes.old terms.old) errors.old) starts.now columns.now entries.now right_sides.now scales.now integer.now mins.now maxs.now low_tolerances.now high_tolerances.now basic.now places.now values.now (variables_of widened.now) (ups_of widened.now) rho_hi.now rho_lo.now second.now)) (ranges_of (sheet (sizes rows structurals entry_count) feasibility checked leaving_row leaving_up (outputs (lists high.old low.old magnitudes.old terms.old) errors.old) starts.now columns.now entries.now right_sides.now scales.now integer.now mins.now maxs.now low_tolerances.now high_tolerances.now basic.now places.now values.now (variables_of widened.now) (ups_of widened.now) rho_hi.now rho_lo.now second.now)) }
+    ensures value { result ≡ verdict (sheet (sizes rows structurals entry_count) feasibility checked leaving_row leaving_up (outputs (lists high.old low.old
+        magnitudes.old terms.old) errors.old) starts.now columns.now entries.now right_sides.now scales.now integer.now mins.now maxs.now
+        low_tolerances.now high_tolerances.now basic.now places.now values.now (variables_of widened.now) (ups_of widened.now) rho_hi.now rho_lo.now
+        second.now) }
+    ensures lent_after { lent (lists high.new low.new magnitudes.new terms.new) errors.new ≡ after (sheet (sizes rows structurals entry_count) feasibility checked
+        leaving_row leaving_up (outputs (lists high.old low.old magnitudes.old terms.old) errors.old) starts.now columns.now entries.now
+        right_sides.now scales.now integer.now mins.now maxs.now low_tolerances.now high_tolerances.now basic.now places.now values.now (variables_of
+        widened.now) (ups_of widened.now) rho_hi.now rho_lo.now second.now) (lent (lists high.old low.old magnitudes.old terms.old) errors.old) }
+    ensures no_point { T result.declined → NoPoint (rows_of (sheet (sizes rows structurals entry_count) feasibility checked leaving_row leaving_up (outputs (lists
+        high.old low.old magnitudes.old terms.old) errors.old) starts.now columns.now entries.now right_sides.now scales.now integer.now mins.now
+        maxs.now low_tolerances.now high_tolerances.now basic.now places.now values.now (variables_of widened.now) (ups_of widened.now) rho_hi.now
+        rho_lo.now second.now)) (ranges_of (sheet (sizes rows structurals entry_count) feasibility checked leaving_row leaving_up (outputs (lists
+        high.old low.old magnitudes.old terms.old) errors.old) starts.now columns.now entries.now right_sides.now scales.now integer.now mins.now
+        maxs.now low_tolerances.now high_tolerances.now basic.now places.now values.now (variables_of widened.now) (ups_of widened.now) rho_hi.now
+        rho_lo.now second.now)) }
 {
     let s = Sheet {
         rows,
@@ -202,9 +214,19 @@ pub extern "C" fn verdict_of(
     rho_lo: &[f64],
     second: &[f64],
 ) -> Verdict
-    ensures value { result ≡ verdict (sheet (sizes rows structurals entry_count) feasibility checked leaving_row leaving_up (outputs (lists high.old low.old magnitudes.old terms.old) errors.old) starts.now columns.now entries.now right_sides.now scales.now integer.now mins.now maxs.now low_tolerances.now high_tolerances.now basic.now places.now values.now widened_vars.now widened_ups.now rho_hi.now rho_lo.now second.now) }
-    ensures lent_after { lent (lists high.new low.new magnitudes.new terms.new) errors.new ≡ after (sheet (sizes rows structurals entry_count) feasibility checked leaving_row leaving_up (outputs (lists high.old low.old magnitudes.old terms.old) errors.old) starts.now columns.now entries.now right_sides.now scales.now integer.now mins.now maxs.now low_tolerances.now high_tolerances.now basic.now places.now values.now widened_vars.now widened_ups.now rho_hi.now rho_lo.now second.now) (lent (lists high.old low.old magnitudes.old terms.old) errors.old) }
-    ensures no_point { T result.declined → NoPoint (rows_of (sheet (sizes rows structurals entry_count) feasibility checked leaving_row leaving_up (outputs (lists high.old low.old magnitudes.old terms.old) errors.old) starts.now columns.now entries.now right_sides.now scales.now integer.now mins.now maxs.now low_tolerances.now high_tolerances.now basic.now places.now values.now widened_vars.now widened_ups.now rho_hi.now rho_lo.now second.now)) (ranges_of (sheet (sizes rows structurals entry_count) feasibility checked leaving_row leaving_up (outputs (lists high.old low.old magnitudes.old terms.old) errors.old) starts.now columns.now entries.now right_sides.now scales.now integer.now mins.now maxs.now low_tolerances.now high_tolerances.now basic.now places.now values.now widened_vars.now widened_ups.now rho_hi.now rho_lo.now second.now)) }
+    ensures value { result ≡ verdict (sheet (sizes rows structurals entry_count) feasibility checked leaving_row leaving_up (outputs (lists high.old low.old
+        magnitudes.old terms.old) errors.old) starts.now columns.now entries.now right_sides.now scales.now integer.now mins.now maxs.now
+        low_tolerances.now high_tolerances.now basic.now places.now values.now widened_vars.now widened_ups.now rho_hi.now rho_lo.now second.now) }
+    ensures lent_after { lent (lists high.new low.new magnitudes.new terms.new) errors.new ≡ after (sheet (sizes rows structurals entry_count) feasibility checked
+        leaving_row leaving_up (outputs (lists high.old low.old magnitudes.old terms.old) errors.old) starts.now columns.now entries.now
+        right_sides.now scales.now integer.now mins.now maxs.now low_tolerances.now high_tolerances.now basic.now places.now values.now
+        widened_vars.now widened_ups.now rho_hi.now rho_lo.now second.now) (lent (lists high.old low.old magnitudes.old terms.old) errors.old) }
+    ensures no_point { T result.declined → NoPoint (rows_of (sheet (sizes rows structurals entry_count) feasibility checked leaving_row leaving_up (outputs (lists
+        high.old low.old magnitudes.old terms.old) errors.old) starts.now columns.now entries.now right_sides.now scales.now integer.now mins.now
+        maxs.now low_tolerances.now high_tolerances.now basic.now places.now values.now widened_vars.now widened_ups.now rho_hi.now rho_lo.now
+        second.now)) (ranges_of (sheet (sizes rows structurals entry_count) feasibility checked leaving_row leaving_up (outputs (lists high.old
+        low.old magnitudes.old terms.old) errors.old) starts.now columns.now entries.now right_sides.now scales.now integer.now mins.now maxs.now
+        low_tolerances.now high_tolerances.now basic.now places.now values.now widened_vars.now widened_ups.now rho_hi.now rho_lo.now second.now)) }
 {
     let s = Sheet {
         rows,
