@@ -53,6 +53,7 @@ fn add_rows(s: &Sheet, count: usize, estimated: bool, l: &mut Lists, errors: &mu
         rows: 0,
         zeroed: 0,
     };
+    // Kept: `r` goes to several lists of the sheet at once.
     for r in 0..s.rows {
         c = add_row(s, count, estimated, l, errors, r, c);
     }
@@ -91,6 +92,7 @@ fn clear_errors(estimated: bool, count: usize, errors: &mut [f64])
     }
 }
 
+// Kept: `estimated` is apart from the sheet, from which it is worked out once; a struct of both would be taken apart in each function.
 /// The certificate of the sheet's rows over `count` variables, its lists written to the first `count` places.
 pub fn certificate(
     s: &Sheet,

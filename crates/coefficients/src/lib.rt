@@ -27,7 +27,7 @@ fn add_term(y: CDouble, v: usize, a: f64, lower: &mut [f64], upper: &mut [f64])
 }
 
 /// A kept row, entry by entry.
-// Kept: the loop of kept_terms::add_terms again: what is done with an entry differs, and a trait of the step with its law is longer than both loops.
+// Kept: the loop of kept_terms::add_terms (and of added_row::add_errors) again, with keep_row: what is done with an entry differs, and a trait of the step with its law is longer than the loops.
 fn add_terms(
     count: usize,
     y: CDouble,
@@ -116,6 +116,7 @@ pub fn add_rows(
     ensures upper_after { upper.new ≡ ends_over sum_up product_up (lent_system s.now estimated) s.now.rows count upper.old }
 {
     let mut sum = 0.0;
+    // Kept: `r` goes to several lists of the sheet at once.
     for r in 0..s.rows {
         sum = add_row(s, count, estimated, lower, upper, r, sum);
     }

@@ -42,7 +42,7 @@ fn put_items(marks: &[bool; MARKS], count: usize, vars: &mut [usize], ups: &mut 
 }
 
 /// Writes the items found to the fronts of `vars` and `ups`, and answers how many they are.
-// Kept: it fills two lent lists, since there is no heap and the reckoning reads the widened list as two.
+// Kept: it fills two lent lists, since there is no heap and the reckoning reads the widened list as two; `None` is an item that names no variable, which question 11 refuses.
 pub fn listed(
     found: &Option<[bool; MARKS]>,
     count: usize,

@@ -31,6 +31,7 @@ pub fn verdict_found(
     ensures no_point { IfOk result (λ v. T v.declined → NoPoint (rows_of (with_found found.now (sheet_lent s.now l.old errors.old))) (ranges_of (with_found found.now (sheet_lent s.now l.old errors.old)))) }
     ensures same_slices { SameSlices l.old l.new }
 {
+    // Kept: arrays of the largest size, since there is no heap and the limits are fixed.
     let mut vars = [0; MARKS];
     let mut ups = [0u8; MARKS];
     let items = listed(

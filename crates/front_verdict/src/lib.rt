@@ -57,6 +57,7 @@ pub fn verdict_on(s: &Sheet, widened: usize) -> Result<Verdict, Refusal>
         second: &s.second[..rows],
         ..*s
     };
+    // Kept: arrays of the largest size, since there is no heap and the limits are fixed.
     let mut high = [0.0; MOST_VARIABLES];
     let mut low = [0.0; MOST_VARIABLES];
     let mut magnitudes = [0.0; MOST_VARIABLES];

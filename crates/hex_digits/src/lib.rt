@@ -20,6 +20,7 @@ pub fn digit_of(c: u8) -> Option<u8>
     }
 }
 
+// Kept: `double_of` and `bits_of` are public, with promises and edits of their own; a `pub use` of the library's two would leave nothing to edit.
 /// The double with a pattern; a NaN's gives a NaN, where `from_bits` is not defined.
 pub fn double_of(bits: u64) -> f64
     ensures { result ≡ of_bits binary64 bits }

@@ -99,6 +99,7 @@ pub fn largest_value(s: &Sheet, count: usize, leaving: usize, lower: &[f64], upp
     ensures { result ≡ largest_or_infinite (at lower.now) (at upper.now) (ranges_in (lent_model s.now) leaving) count }
 {
     let mut sum = 0.0;
+    // Kept: `v` goes to the sheet's lists too, so a zip of `lower` and `upper` would be numbered again.
     for v in 0..count {
         let Some(more) = step(s, leaving, v, lower[v], upper[v], sum) else {
             return f64::INFINITY;

@@ -10,6 +10,7 @@ use questions::{MOST_ROWS, MOST_STRUCTURALS};
 /// Two marks for each variable, down and up.
 pub const MARKS: usize = 2 * (MOST_STRUCTURALS + MOST_ROWS);
 
+// Kept: the side is a byte, set unless 0, as a sheet has it: a `bool` is a narrower type, which asks more of callers.
 /// The place of the mark of a variable's side.
 pub fn mark_of(v: usize, up: u8) -> usize
     requires { 2 * v + 1 < 2 ^ 64 }

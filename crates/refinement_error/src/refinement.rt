@@ -23,6 +23,7 @@ fn norm_with(norm: Option<f64>, x: f64) -> Option<f64>
     }
 }
 
+// Kept: `second_norm` has this loop over one list: one function of both would take an iterator with its laws, for four lines less.
 /// The largest magnitude of the multipliers.
 fn rho_norm(rho_hi: &[f64], rho_lo: &[f64]) -> Option<f64>
     requires { length rho_lo.now ≡ length rho_hi.now }

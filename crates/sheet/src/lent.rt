@@ -1,5 +1,6 @@
 //! The sheet as it is lent.
 
+// Kept: a slice for each list, and flags that are bytes, set unless 0, since the C interface lends them so; a `bool` or structs in slices would ask more of callers.
 /// The sheet: one field for each number and each lent slice. What each means stands at the fields of the same names in specs/Sheet.antt.
 #[derive(Clone, Copy)]
 pub struct Sheet<'a> {

@@ -25,6 +25,7 @@ pub fn put_digits(x: &mut [u8], from: usize, n: u64, radix: u64, width: usize)
     ensures { x.new ≡ sets x.old from (digits radix width n) }
 {
     let mut rest = n;
+    // Kept: digits come last first, and the slice may end before them, so each is put at its own place.
     for left in (0..width).rev() {
         put(x, from + left, digit_byte(rest % radix));
         rest /= radix;

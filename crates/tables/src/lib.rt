@@ -48,6 +48,7 @@ pub fn each_line<const LINE: usize, I: Read, F: FnMut(&[u8]) -> io::Result<()>>(
     ensures ran { IfOk result (λ n. RunsLines F.FnMut LINE n run.old run.new) }
 {
     for done in 0..u64::MAX {
+        // Kept: an array of the largest size, since there is no heap and the limits are fixed.
         let mut line = [0u8; LINE];
         let n = read_full(input, &mut line)?;
         if n == 0 {

@@ -1,5 +1,6 @@
 //! The lists behind the variables, as they are lent.
 
+// Kept: a slice for each list, as the sheet lends them; an array of structs could not be lent on without a copy.
 /// What goes by rows, and the entries of all rows; a row's entries start where those of the row before end.
 #[derive(Drop)]
 pub struct RowLists<'a> {

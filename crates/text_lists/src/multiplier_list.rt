@@ -31,6 +31,7 @@ pub fn read_multipliers(
     ensures lists { lent_rhos l.new ≡ with_rhos (rho_lines text.now checked rows position) (lent_rhos l.old) }
 {
     let mut next = position;
+    // Kept: `i` is the place in three lists, of which one may be shorter than the others.
     for i in 0..rows {
         let line = rho_line(text, checked, next);
         store_rho(i, line, l);

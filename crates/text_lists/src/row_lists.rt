@@ -36,6 +36,7 @@ fn read_pairs(text: &[u8], position: Option<usize>, first: usize, l: &mut RowLis
     ensures lists { lent_rows l.new ≡ with_pairs first (pairs text.now first position) (lent_rows l.old) }
 {
     let mut next = position;
+    // Kept: `count` is the place in both lists, which may be shorter, and is part of the answer.
     for count in first..MOST_BYTES {
         if no_pair(text, next) {
             return Reached { count, next };
@@ -87,6 +88,7 @@ pub fn read_rows(text: &[u8], position: Option<usize>, rows: usize, l: &mut RowL
 {
     let mut next = position;
     let mut count = 0;
+    // Kept: `i` is the place in three lists, of which one may be shorter than the others.
     for i in 0..rows {
         let row = read_row(text, next, count, l);
         store_row(i, row, l);

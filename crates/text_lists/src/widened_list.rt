@@ -26,6 +26,7 @@ fn store_widened(i: usize, line: SidedLine, l: &mut WidenedLists)
     put(l.ups, i, u8::from(line.up));
 }
 
+// Kept: the loop of `read_pairs` again: one function of both would take what stands, reads and stores as closures, with a law for each, and be longer than both loops.
 /// The widened lines from a position on.
 pub fn read_widened(text: &[u8], position: Option<usize>, l: &mut WidenedLists) -> Reached
     ensures value { result ≡ widened_reached text.now position }
@@ -33,6 +34,7 @@ pub fn read_widened(text: &[u8], position: Option<usize>, l: &mut WidenedLists) 
     ensures lists { lent_widened l.new ≡ with_widened_lines (widened_lines text.now position) (lent_widened l.old) }
 {
     let mut next = position;
+    // Kept: `count` is the place in both lists, which may be shorter, and is part of the answer.
     for count in 0..MOST_BYTES {
         if no_widened(text, next) {
             return Reached { count, next };

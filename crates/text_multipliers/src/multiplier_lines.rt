@@ -45,6 +45,7 @@ fn second_if(text: &[u8], checked: u8, position: Option<usize>) -> Item<f64>
     }
 }
 
+// Kept: the flag is a byte, set unless 0, as a sheet has it: a `bool` is a narrower type, which asks more of callers.
 /// The line of a multiplier; the multipliers are checked unless `checked` is 0.
 #[tactic(auto, unfolding(crate::specs::Lines::rho_line))]
 pub fn rho_line(text: &[u8], checked: u8, position: Option<usize>) -> RhoLine

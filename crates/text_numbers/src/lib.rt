@@ -31,6 +31,7 @@ fn number(text: &[u8], position: Option<usize>, radix: usize, most: usize) -> It
     };
     let mut value = 0;
     let mut next = start;
+    // Kept: `next` is counted with the value, since both come back, and the first other byte ends both.
     for done in 0..most {
         let Some(digit) = digit_at(text, next, radix) else {
             break;

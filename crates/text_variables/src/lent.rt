@@ -1,5 +1,6 @@
 //! The lists of the variables, as they are lent.
 
+// Kept: a slice for each list, as the sheet lends them; an array of structs could not be lent on without a copy.
 /// What the lines say of each variable; whether it is integer, of the structural ones alone.
 #[derive(Drop)]
 pub struct VariableLists<'a> {

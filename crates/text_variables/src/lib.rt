@@ -45,6 +45,7 @@ pub fn read_variables(
     ensures lists { lent_variables l.new ≡ with_variables (variable_lines text.now structurals structurals position) (variable_lines text.now structurals count position) (lent_variables l.old) }
 {
     let mut next = position;
+    // Kept: `i` is the place in eight lists, of which one may be shorter than the others.
     for i in 0..count {
         let line = line_at(text, structurals, i, next);
         store_variable(i, structurals, line, l);

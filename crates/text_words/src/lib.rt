@@ -1,7 +1,7 @@
 //! The words of the sheet: each is read at a position of a text, and the answer has the position after it. What does not
 //! follow the form has no position after it, and nothing can be read from there on.
 
-// Kept: text and position are two parameters: a cursor of both comes back with every item, and each contract has to say that its text is the same.
+// Kept: text and position are two parameters: a cursor of both has to say in each contract that its text is the same, and the form's definitions speak of positions.
 
 #![tactic(auto)]
 
@@ -11,6 +11,7 @@ ghost use Rattle.text_words.specs.Words.{expect, followed_by, either};
 /// The longest text, in bytes.
 pub const MOST_BYTES: usize = 65_536;
 
+// Kept: a value beside `next`, here and in the structs that hold more of them: each reader promises its value for every text, also where the form breaks.
 /// What is read at a position of a text.
 #[derive(Clone, Copy)]
 pub struct Item<T> {

@@ -8,6 +8,7 @@ ghost use Rattle.cdouble.specs.Exactness.{abs_ℤ, ProductRange, SumRange};
 use cdouble::CDouble;
 use double_bits::next_up;
 
+// Kept: `directed` has a fast form of this that asks for a range, and `CDouble::rounded` adds first; this one asks nothing.
 /// The high part of `s`, or the next double up where the low part is above 0.
 #[tactic(auto, unfolding(cdouble::specs::Compensated::upper))]
 fn upper(s: CDouble) -> f64

@@ -9,6 +9,7 @@ ghost use Rattle.variable_bounds.specs.Model.{bound_of, lent_model, tols_of};
 use sheet::Sheet;
 use tolerances::BoundTols;
 
+// Kept: facts such as `Readable` stand in each contract: a lent sheet is unchecked, so no type of it can carry what the questions show.
 /// The bound of `v` on this side.
 pub fn bound_of(s: &Sheet, v: usize, up: bool) -> f64
     requires { (v < length s.now.mins.now) × (v < length s.now.maxs.now) }

@@ -16,6 +16,7 @@ fn read_on<I: Read>(input: &mut I) {
 
 // Answers the text, and says on standard error where the answer cannot be written.
 fn answer<R: Print + Eprint>(rt: &R, text: &[u8]) {
+    // Kept: an array of the largest size, since there is no heap and the limits are fixed.
     let mut out = [0u8; MOST_ANSWER];
     let length = weigh_text(text, &mut out);
     if rt.write_all(&out[..length]).is_err() {

@@ -25,6 +25,7 @@ pub struct Widened {
     pub up: u8,
 }
 
+// Kept: 0 and no `Option`: with no variable every item names none, which is what the search has to say of a sheet that is too large.
 /// How many variables there are, the slacks among them; none where there are more rows or structural variables than a sheet
 /// may have.
 pub fn variable_count(rows: usize, structurals: usize) -> usize
@@ -37,6 +38,7 @@ pub fn variable_count(rows: usize, structurals: usize) -> usize
     }
 }
 
+// Kept: `place_questions` marks the items of two lists so, and keeps no marks; one function of both would take an iterator with its laws, for five lines less.
 /// Sets an item's mark, and answers whether the item is new: it names one of `count` variables, and its mark was not set.
 #[tactic(auto, unfolding(crate::specs::Found::noted_in))]
 fn noted(w: Widened, count: usize, marks: &mut [bool; MARKS]) -> bool
@@ -60,6 +62,7 @@ pub fn search(list: &[Widened], rows: usize, structurals: usize) -> Option<[bool
     ensures some_value { is_some result ≡ widened_fine (count_of rows structurals) (variables_of list.now) (ups_of list.now) }
 {
     let count = variable_count(rows, structurals);
+    // Kept: an array of the largest size, since there is no heap and the limits are fixed.
     let mut marks = [false; MARKS];
     for w in &list[..MOST_WIDENED.min(list.len())] {
         if !noted(*w, count, &mut marks) {
