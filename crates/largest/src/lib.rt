@@ -3,7 +3,6 @@
 #![tactic(auto)]
 
 ghost use Rattle.std.specs.Prelude.{◌≡◌};
-ghost use Rattle.doubles.specs.Compare.{larger};
 ghost use Rattle.variable_bounds.specs.Model.{lent_model};
 ghost use Rattle.widening_rooms.specs.Reads.{Readable};
 ghost use Rattle.gaps.specs.Rows.{ranges_in};
@@ -13,7 +12,7 @@ ghost use Rattle.largest.specs.Reads.{WalkFits};
 
 use both_edges::both_edges;
 use directed::{product_bounds, rounded_sum};
-use double_bits::is_finite;
+use double_bits::{is_finite, max};
 use sheet::Sheet;
 
 /// Whether both ends of a coefficient are 0.
@@ -41,22 +40,13 @@ fn limited(l: f64, u: f64, low: f64, high: f64) -> bool
     is_finite(l) & is_finite(u) & (skipped(l, u) | !unlimited(l, u, low, high))
 }
 
-/// The larger of `a` and `b`, by comparisons that need no branch.
-#[tactic(auto, unfolding(doubles::specs::Compare::larger))]
-// Kept: `double_bits::max` promises the same by the order of bit patterns; the outward gap met its bar of speed only without the mispredicted branches of that form.
-fn larger_of(a: f64, b: f64) -> f64
-    ensures { result ≡ larger a b }
-{
-    if a.is_nan() | (a < b) { b } else { a }
-}
-
 /// The larger of both ends times an edge, rounded up.
 fn at_edge(l: f64, u: f64, edge: f64) -> f64
     ensures { result ≡ at_edge l u edge }
 {
     let lower = product_bounds(l, edge);
     let upper = product_bounds(u, edge);
-    larger_of(lower.up, upper.up)
+    max(lower.up, upper.up)
 }
 
 /// The largest of both ends times the finite edges.
@@ -71,7 +61,7 @@ fn term(l: f64, u: f64, low: f64, high: f64) -> f64
     if !is_finite(high) {
         return at_low;
     }
-    larger_of(at_low, at_edge(l, u, high))
+    max(at_low, at_edge(l, u, high))
 }
 
 /// The sum after the variable `v`, whose coefficient lies between `l` and `u`, if it has a limit. Its edges are reckoned

@@ -31,7 +31,8 @@ pub fn sizes_fine(s: &Sheet) -> bool
 /// The third question, of the slices that go by rows and entries.
 fn rows_fit(s: &Sheet) -> bool
     requires { s.now.rows ≤ most_rows }
-    ensures { result ≡ rows_fit s.now.rows s.now.entry_count s.now.starts.now s.now.columns.now s.now.entries.now s.now.right_sides.now s.now.scales.now s.now.rho_hi.now s.now.rho_lo.now s.now.second.now }
+    ensures { result ≡ rows_fit s.now.rows s.now.entry_count s.now.starts.now s.now.columns.now s.now.entries.now s.now.right_sides.now
+        s.now.scales.now s.now.rho_hi.now s.now.rho_lo.now s.now.second.now }
 {
     (s.starts.len() == s.rows + 1)
         & (s.columns.len() == s.entry_count)
