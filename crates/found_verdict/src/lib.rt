@@ -28,7 +28,8 @@ pub fn verdict_found(
 ) -> Result<Verdict, Refusal>
     ensures value { numbered result ≡ verdict (with_found found.now (sheet_lent s.now l.old errors.old)) }
     ensures lent_after { lent (lent_lists l.new) errors.new ≡ after (with_found found.now (sheet_lent s.now l.old errors.old)) (lent (lent_lists l.old) errors.old) }
-    ensures no_point { IfOk result (λ v. T v.declined → NoPoint (rows_of (with_found found.now (sheet_lent s.now l.old errors.old))) (ranges_of (with_found found.now (sheet_lent s.now l.old errors.old)))) }
+    ensures no_point { IfOk result (λ v. T v.declined →
+        NoPoint (rows_of (with_found found.now (sheet_lent s.now l.old errors.old))) (ranges_of (with_found found.now (sheet_lent s.now l.old errors.old)))) }
     ensures same_slices { SameSlices l.old l.new }
 {
     // Kept: arrays of the largest size, since there is no heap and the limits are fixed.

@@ -1,5 +1,5 @@
--- A loop that reads things until there is none, n at most in all, and stores a value of each: what is left to do at its head, one turn, and its
--- end. `first` things were read before the loop began, `count` before this turn. Assumes nothing.
+-- A loop that reads things until there is none, n at most in all: what is left to do at its head, one turn, and its end. `first` things were
+-- read before the loop began, `count` before this turn. Assumes nothing.
 use mathlib.Core.Path.{◌≡◌, refl, sym, ◌∙◌}
 use mathlib.Core.List.{List, []}
 use mathlib.Core.Bool.{Bool, true, false}
@@ -7,9 +7,8 @@ use mathlib.Core.Logic.{◌⊎◌, inl, inr}
 use Prim.Native.Nat.{ℕ, zero, suc, ◌+◌, ◌-◌, ◌<◌, ◌≤◌}
 use native.Mathlib.Numerals.{add-one}
 use native.Mathlib.Omega.{arith}
-use lib.ListN.{length, set}
+use lib.ListN.{length}
 use Rattle.repeats.specs.Chained.{chain, chain_end}
-use Rattle.repeats.specs.Filled.{filled_from}
 use Rattle.repeats.proofs.Stores.{step_left}
 
 -- the position p leads where the first position leads
@@ -19,10 +18,6 @@ pub record ChainLeads {P R : Type 0} (none : P → Bool) (read : P → R) (next 
 -- the count, with what is left, is that of all
 pub record ChainCounts {P R : Type 0} (none : P → Bool) (read : P → R) (next : R → P) (n first : ℕ) (p₀ : P) (count : ℕ) (p : P) : Type 0 where
   pub is : first + length (chain none read next (n - first) p₀) ≡ count + length (chain none read next (n - count) p)
-
--- the list l, with what is left stored, is the list l₀ with all stored
-pub record ChainFills {P R A : Type 0} (none : P → Bool) (read : P → R) (next : R → P) (f : R → A) (n first : ℕ) (p₀ : P) (l₀ : List A) (count : ℕ) (p : P) (l : List A) : Type 0 where
-  pub is : filled_from first f (chain none read next (n - first) p₀) l₀ ≡ filled_from count f (chain none read next (n - count) p) l
 
 -- the loop is over: n are read, or there is none
 pub record Over {P : Type 0} (none : P → Bool) (n count : ℕ) (p : P) : Type 0 where
@@ -61,13 +56,3 @@ module _ {P R : Type 0} {none : P → Bool} {read : P → R} {next : R → P} {n
   pub chain_counts_end : {count : ℕ} {p : P} → Over none n count p → ChainCounts none read next n first p₀ count p
       → count ≡ first + length (chain none read next (n - first) p₀)
   chain_counts_end {count} {p} o t = sym (t.is ∙ rw (chain_over none read next (n - count) p (over o)) (omega arith))
-
-  module _ {A : Type 0} {f : R → A} {l₀ : List A} where
-    pub chain_fills_turn : {count : ℕ} {p : P} {l m : List A} {r : R} → count < n → none p ≡ false → r ≡ read p → m ≡ set l count (f r)
-        → ChainFills none read next f n first p₀ l₀ count p l → ChainFills none read next f n first p₀ l₀ (count + 1) (next r) m
-    unfolding chain
-    chain_fills_turn {count} {p} h k q g t = record { is = t.is ∙ rw (step_left n count h) (rw (k, g, q, add-one)) }
-
-    pub chain_fills_end : {count : ℕ} {p : P} {l : List A} → Over none n count p → ChainFills none read next f n first p₀ l₀ count p l
-        → l ≡ filled_from first f (chain none read next (n - first) p₀) l₀
-    chain_fills_end {count} {p} {l} o t = sym (t.is ∙ rw (chain_over none read next (n - count) p (over o)))

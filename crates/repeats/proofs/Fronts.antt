@@ -18,13 +18,10 @@ front_sets (suc k) [] vs h g = absurd (omega arith)
 front_sets (suc k) (x ∷ l) [] h g = absurd (omega arith)
 front_sets (suc k) (x ∷ l) (v ∷ vs) h g = rw (sets_behind v l 0 vs) (ap (λ (r : List _). v ∷ r) (front_sets k l vs (omega (arith, h)) (omega (arith, g))))
 
-pub take_map : {R A : Type 0} (f : R → A) (k : ℕ) (things : List R) → take k (map f things) ≡ map f (take k things)
-take_map f k things = take-map f k things
-
 module _ {R A : Type 0} (f : R → A) (things : List R) (before : List A) where
   -- the first k, where the slice has room for them
   pub front_of : (k : ℕ) → k ≤ length before → k ≤ length things → take k (column f things before) ≡ map f (take k things)
-  front_of k h g = front_sets k before (map f things) h (rw length-map g) ∙ take_map f k things
+  front_of k h g = front_sets k before (map f things) h (rw length-map g) ∙ take-map f k things
 
   -- all of them, where it has room for all
   pub whole_front : length things ≤ length before → take (length things) (column f things before) ≡ map f things

@@ -28,8 +28,10 @@ pub fn sheet_verdict(
     errors: &mut [f64],
 ) -> Result<Verdict, Refusal>
     ensures value { numbered result ≡ verdict (with_widened (variables_of widened.now) (ups_of widened.now) (sheet_lent s.now l.old errors.old)) }
-    ensures lent_after { lent (lent_lists l.new) errors.new ≡ after (with_widened (variables_of widened.now) (ups_of widened.now) (sheet_lent s.now l.old errors.old)) (lent (lent_lists l.old) errors.old) }
-    ensures no_point { IfOk result (λ v. T v.declined → NoPoint (rows_of (with_widened (variables_of widened.now) (ups_of widened.now) (sheet_lent s.now l.old errors.old))) (ranges_of (with_widened (variables_of widened.now) (ups_of widened.now) (sheet_lent s.now l.old errors.old)))) }
+    ensures lent_after { lent (lent_lists l.new) errors.new
+        ≡ after (with_widened (variables_of widened.now) (ups_of widened.now) (sheet_lent s.now l.old errors.old)) (lent (lent_lists l.old) errors.old) }
+    ensures no_point { IfOk result (λ v. T v.declined → NoPoint (rows_of (with_widened (variables_of widened.now) (ups_of widened.now) (sheet_lent s.now l.old errors.old)))
+        (ranges_of (with_widened (variables_of widened.now) (ups_of widened.now) (sheet_lent s.now l.old errors.old)))) }
     ensures same_slices { SameSlices l.old l.new }
 {
     let found = search(widened, s.rows, s.structurals);

@@ -21,7 +21,8 @@ use Rattle.verdict.proofs.Whole.{Declined}
 use Rattle.same_widened.specs.Interchangeable.{Interchangeable}
 use Rattle.same_widened.proofs.SameWidened.{same_verdict, same_declined}
 use Rattle.repeats.specs.Filled.{column}
-use Rattle.repeats.proofs.Fronts.{front_of, take_map}
+use Rattle.repeats.proofs.Fronts.{front_of}
+use Rattle.std.proofs.lemmas.List.{take-map}
 use Rattle.text_variable_line.specs.declared.variable_lines.VariableLine.{VariableLine}
 use Rattle.text_rows.specs.declared.row_items.Pair.{Pair}
 use Rattle.text_sides.specs.declared.sided_lines.SidedLine.{SidedLine}
@@ -89,7 +90,7 @@ module _ (text : List ℕ) (room : SheetLists) where
       (front_of f (widened_lines_in text) before (fewest (length (widened_lines_in text))) (omega (arith, fewest_most (length (widened_lines_in text))))
       (fewest-within (length (widened_lines_in text)))
       ∙ ap (map f) (fewest_takes (widened_lines_in text))
-      ∙ sym (take_map f most_widened (widened_lines_in text)))
+      ∙ sym (take-map f most_widened (widened_lines_in text)))
 
   -- the sheet at their fronts is the text's, with its widened list cut
   module _ (enough : Room room) (fine : Fine ≡ true) where

@@ -5,14 +5,13 @@ use mathlib.Core.Bool.{Bool, true}
 use mathlib.Core.List.{List}
 use Prim.Native.Nat.{ℕ, ◌+◌, ◌≤◌}
 use Rattle.std.specs.Prelude.{Option, Some, is_some, min}
-use Rattle.std.proofs.lemmas.List.{take_min}
+use Rattle.std.proofs.lemmas.List.{take-map, take_min}
 use lib.ListN.{length, take, length-map}
 use lib.Seq.{take_all}
 use Rattle.questions.specs.Limits.{most_rows, most_structurals}
 use Rattle.place_questions.specs.Questions.{widened_fine}
 use Rattle.many_widened.specs.Fewest.{most_widened}
 use Rattle.many_widened.proofs.ManyWidened.{fine_few, front_decides}
-use Rattle.repeats.proofs.Fronts.{take_map}
 use Rattle.widened_records.specs.declared.Widened.{Widened}
 use Rattle.widened_records.specs.Records.{count_of, ups_of, variables_of}
 use Rattle.widened_records.specs.Found.{found_in}
@@ -27,7 +26,7 @@ module _ (count : ℕ) (list : List Widened) (few : count ≤ most_structurals +
   -- the front is refused as the list is
   pub front_fine : Fine (take most_widened list) ≡ Fine list
   front_fine =
-      rw (sym (take_map (λ (w : Widened). w.variable) most_widened list), sym (take_map (λ (w : Widened). w.up) most_widened list))
+      rw (sym (take-map (λ (w : Widened). w.variable) most_widened list), sym (take-map (λ (w : Widened). w.up) most_widened list))
       (front_decides count most_widened (variables_of list) (ups_of list) (records_sided list) (omega (arith, few)))
 
   -- a list that is not refused is its own front
