@@ -1,13 +1,13 @@
 -- No answer is longer than 256 bytes, and what is lent afterwards, where it fits. Assumes nothing.
 use mathlib.Core.Path.{◌≡◌, ◌∙◌}
-use mathlib.Core.Bool.{Bool, true, false, cond}
+use mathlib.Core.Bool.{Bool, true, false}
 use mathlib.Core.List.{List}
 use Prim.Native.Nat.{ℕ, ◌-◌, ◌≤◌}
 use native.Mathlib.Nat.{zero-add, sub-zero}
 use native.Mathlib.Omega.{arith}
 use borrow.Author.Tests.{le-leb}
-use lib.Dec.{eqb}
 use lib.ListN.{length, take, length-append}
+use Rattle.std.specs.Prelude.{Result, Ok, Err}
 use Rattle.printer.specs.declared.Lines.{Lines}
 use Rattle.stored_text.specs.Stored.{Stored}
 use Rattle.printer.specs.Answer.{line, yes_or_no, refusal_line, nine_lines, answer_text, written_if_fits}
@@ -18,21 +18,18 @@ flag_short : (b : Bool) → length (yes_or_no b) ≤ 3
 flag_short true = omega arith
 flag_short false = omega arith
 
-pub answer_short : (refusal : ℕ) (l : Lines) → length (answer_text refusal l) ≤ 256
-unfolding answer_text nine_lines refusal_line line
-answer_short refusal l = go (eqb refusal 0)
-  where
-    go : (b : Bool) → length (cond b (nine_lines l) (refusal_line refusal)) ≤ 256
-    go true =
-        simp (length-append, length-hexadecimal) (omega (
-          arith,
-          flag_short l.holds,
-          decimal_short l.zero_within_error,
-          decimal_short l.multipliers_zeroed,
-          decimal_short l.rows,
-          flag_short l.declined,
-        ))
-    go false = simp length-append (omega (arith, decimal_short refusal))
+pub answer_short : (answer : Result Lines ℕ) → length (answer_text answer) ≤ 256
+unfolding nine_lines refusal_line line
+answer_short (Ok l) =
+    simp (length-append, length-hexadecimal) (omega (
+      arith,
+      flag_short l.holds,
+      decimal_short l.zero_within_error,
+      decimal_short l.multipliers_zeroed,
+      decimal_short l.rows,
+      flag_short l.declined,
+    ))
+answer_short (Err number) = simp length-append (omega (arith, decimal_short number))
 
 -- a text put at the front of an array, and from there at the front of a slice that has room for it
 pub written : {blank whole text out after : List ℕ} {end next : ℕ} → Stored blank whole 0 end text → end ≤ length blank → Stored out after 0 next (take (end - 0) whole)

@@ -1,5 +1,5 @@
 -- What `weigh` prints: document 01, "The sheet". Assumes nothing.
-use Rattle.std.specs.Prelude.{Bool, cond, List, ◌++◌, ℕ, leb, eqb, length}
+use Rattle.std.specs.Prelude.{Bool, cond, List, ◌++◌, ℕ, leb, length, Result, Ok, Err}
 use Rattle.std.proofs.lemmas.List.Edits.{sets}
 use Rattle.printer.specs.declared.Lines.{Lines}
 use Rattle.text_words.specs.Text.{bytes}
@@ -29,9 +29,10 @@ nine_lines l =
     ++ (line (bytes "(outward ") (hexadecimal l.outward)
     ++ line (bytes "(declined ") (yes_or_no l.declined))))))))
 
--- the text of an answer whose number is 0 where no question refused
-unfoldable pub answer_text : ℕ → Lines → List ℕ
-answer_text refusal l = cond (eqb refusal 0) (nine_lines l) (refusal_line refusal)
+-- the text of an answer: a verdict's lines, or the line of the question that refused
+abbrev pub answer_text : Result Lines ℕ → List ℕ
+answer_text (Ok lines) = nine_lines lines
+answer_text (Err number) = refusal_line number
 
 -- "Output that won't fit the lent slice is answered by the length needed and nothing written"
 abbrev pub written_if_fits : List ℕ → List ℕ → List ℕ

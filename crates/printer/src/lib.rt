@@ -54,26 +54,25 @@ fn put_lines(x: &mut [u8], lines: Lines) -> usize
 }
 
 /// Puts the text of an answer at the front of `x`, and returns the place after it.
-#[tactic(auto, unfolding(crate::specs::Answer::answer_text, crate::specs::Answer::refusal_line))]
-fn put_whole(x: &mut [u8], refusal: u32, lines: Lines) -> usize
-    ensures { Stored x.old x.new 0 result (answer_text refusal lines) }
+#[tactic(auto, unfolding(crate::specs::Answer::refusal_line))]
+fn put_whole(x: &mut [u8], answer: Result<Lines, u32>) -> usize
+    ensures { Stored x.old x.new 0 result (answer_text answer) }
 {
-    if refusal == 0 {
-        put_lines(x, lines)
-    } else {
-        put_line(x, 0, b"(refused ", refusal as usize)
+    match answer {
+        Ok(lines) => put_lines(x, lines),
+        Err(refusal) => put_line(x, 0, b"(refused ", refusal as usize),
     }
 }
 
 /// The text of an answer, at the front of `out` where it fits; where it does not, nothing is written. Returns its length.
 #[tactic(auto, using(crate::proofs::Parts::answer_short))]
-pub fn put_answer(refusal: u32, lines: Lines, out: &mut [u8]) -> usize
-    ensures value { result ≡ length (answer_text refusal lines) }
-    ensures out_after { out.new ≡ written_if_fits (answer_text refusal lines) out.old }
+pub fn put_answer(answer: Result<Lines, u32>, out: &mut [u8]) -> usize
+    ensures value { result ≡ length (answer_text answer) }
+    ensures out_after { out.new ≡ written_if_fits (answer_text answer) out.old }
 {
     // Kept: an array, since the device has no heap for a Vec; a text that does not fit must leave `out` as it was.
     let mut text = [0; LONGEST];
-    let end = put_whole(&mut text, refusal, lines);
+    let end = put_whole(&mut text, answer);
     if end <= out.len() {
         put_text(out, 0, &text[0..end]);
     }

@@ -6,6 +6,7 @@ ghost use Rattle.printer.specs.Answer.{line, yes_or_no};
 
 use stored_text::{put_count, put_double, put_text};
 
+// Kept: `Shown`, no `Display`: what that writes is promised only where it answers Ok, and this cannot fail.
 /// A value that a line shows.
 pub trait Shown {
     /// Its text.

@@ -1,6 +1,5 @@
 -- The answer to a text from its verdict, and how long it is. Assumes nothing.
-use mathlib.Core.Path.{◌≡◌, refl, ap, sym, subst, ◌∙◌}
-use mathlib.Core.Bool.{Bool, cond}
+use mathlib.Core.Path.{◌≡◌, ap, sym, subst, ◌∙◌}
 use mathlib.Core.List.{List}
 use Prim.Native.Nat.{ℕ, ◌≤◌}
 use lib.Dec.{T}
@@ -8,38 +7,34 @@ use lib.ListN.{length}
 use Rattle.std.specs.Prelude.{IfOk, Result, Ok, Err}
 use Rattle.refusal_numbers.specs.declared.Refusal.{Refusal}
 use Rattle.refusal_numbers.specs.Numbers.{number_of, numbered}
-use Rattle.refusal_numbers.proofs.Numbers.{not_zero, ok_numbered}
+use Rattle.refusal_numbers.proofs.Numbers.{ok_numbered}
 use Rattle.printer.specs.declared.Lines.{Lines}
-use Rattle.printer.specs.Answer.{answer_text, nine_lines, refusal_line, written_if_fits}
+use Rattle.printer.specs.Answer.{answer_text, written_if_fits}
 use Rattle.printer.proofs.Parts.{answer_short}
 use Rattle.gaps.specs.Rows.{ranges_of, rows_of}
 use Rattle.gaps.specs.ThirdDemand.{NoPoint}
 use Rattle.verdict.specs.declared.Verdict.{Verdict}
 use Rattle.verdict.proofs.Whole.{Declined}
 use Rattle.sheet_text.specs.SheetIn.{sheet_in}
-use Rattle.weigh_text.specs.TextVerdict.{lines_of, most_answer, printed, text_answer, text_verdict}
+use Rattle.weigh_text.specs.TextVerdict.{in_lines, lines_of, most_answer, text_answer, text_verdict}
 
 module _ (text : List ℕ) where
-  -- what is printed of a verdict, and of a refusal
-  pub full_is : {v : Verdict} {l : Lines} → Ok v ≡ text_verdict text → l ≡ lines_of v → answer_text 0 l ≡ text_answer text
-  unfolding text_answer answer_text
-  full_is is lines_are = ap nine_lines lines_are ∙ ap printed is
+  -- what is put for a verdict, and for a refusal
+  pub full_is : {v : Verdict} {l : Lines} → Ok v ≡ text_verdict text → l ≡ lines_of v → Ok l ≡ in_lines (text_verdict text)
+  full_is is lines_are = ap Ok lines_are ∙ ap in_lines is
 
-  pub refused_is : (refusal : Refusal) (l : Lines) {number : ℕ} → Err (number_of refusal) ≡ text_verdict text → number ≡ number_of refusal → answer_text number l ≡ text_answer text
-  unfolding text_answer answer_text
-  refused_is refusal l is number_is =
-      ap (λ (n : ℕ). answer_text n l) number_is
-      ∙ ap (λ (b : Bool). cond b (nine_lines l) (refusal_line (number_of refusal))) (not_zero refusal refl)
-      ∙ ap printed is
+  pub refused_is : (refusal : Refusal) {number : ℕ} → Err (number_of refusal) ≡ text_verdict text → number ≡ number_of refusal → Err number ≡ in_lines (text_verdict text)
+  refused_is refusal is number_is = ap Err number_is ∙ ap in_lines is
 
-  pub answer_is : (before : List ℕ) (number : ℕ) (l : Lines) {r : ℕ} {now : List ℕ} → answer_text number l ≡ text_answer text
-      → r ≡ length (answer_text number l) → now ≡ written_if_fits (answer_text number l) before
+  pub answer_is : (before : List ℕ) (answer : Result Lines ℕ) {r : ℕ} {now : List ℕ} → answer ≡ in_lines (text_verdict text)
+      → r ≡ length (answer_text answer) → now ≡ written_if_fits (answer_text answer) before
       → (r ≡ length (text_answer text)) × ((now ≡ written_if_fits (text_answer text) before) × (r ≤ most_answer))
-  answer_is before number l is long stored = (
-    long ∙ ap length is,
+  unfolding text_answer
+  answer_is before answer is long stored = (
+    long ∙ ap (λ (a : Result Lines ℕ). length (answer_text a)) is,
     (
-      stored ∙ ap (λ (t : List ℕ). written_if_fits t before) is,
-      subst (λ (k : ℕ). k ≤ most_answer) (sym long) (answer_short number l),
+      stored ∙ ap (λ (a : Result Lines ℕ). written_if_fits (answer_text a) before) is,
+      subst (λ (k : ℕ). k ≤ most_answer) (sym long) (answer_short answer),
     ),
   )
 
@@ -50,9 +45,9 @@ module _ (text : List ℕ) where
       (ok_numbered (λ v. T v.declined → NoPoint (rows_of (sheet_in text)) (ranges_of (sheet_in text))) r rules)
 
   -- all of it, where the text is not refused
-  pub answered_whole : (before : List ℕ) {v : Verdict} {l : Lines} {r : ℕ} {now : List ℕ} → Ok v ≡ text_verdict text → l ≡ lines_of v → r ≡ length (answer_text 0 l)
-      → now ≡ written_if_fits (answer_text 0 l) before → Declined (sheet_in text) (Ok v)
+  pub answered_whole : (before : List ℕ) {v : Verdict} {l : Lines} {r : ℕ} {now : List ℕ} → Ok v ≡ text_verdict text → l ≡ lines_of v → r ≡ length (answer_text (Ok l))
+      → now ≡ written_if_fits (answer_text (Ok l)) before → Declined (sheet_in text) (Ok v)
       → (r ≡ length (text_answer text)) × ((now ≡ written_if_fits (text_answer text) before) × ((r ≤ most_answer)
       × IfOk (text_verdict text) (λ w. T w.declined → NoPoint (rows_of (sheet_in text)) (ranges_of (sheet_in text)))))
   answered_whole before {v} {l} is lines_are long stored rules =
-      let all = answer_is before 0 l (full_is is lines_are) long stored in (all.0, (all.1.0, (all.1.1, declined_is (Ok v) is rules)))
+      let all = answer_is before (Ok l) (full_is is lines_are) long stored in (all.0, (all.1.0, (all.1.1, declined_is (Ok v) is rules)))

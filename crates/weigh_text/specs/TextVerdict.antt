@@ -1,7 +1,8 @@
 -- The verdict on a text: document 01, "Questions put to the input". Assumes nothing.
-use Rattle.std.specs.Prelude.{cond, List, ℕ, Result, Ok, Err}
+use Rattle.std.specs.Prelude.{cond, List, ℕ, Result, Err}
+use Rattle.std.specs.Result.{result_map_both}
 use Rattle.printer.specs.declared.Lines.{Lines}
-use Rattle.printer.specs.Answer.{nine_lines, refusal_line}
+use Rattle.printer.specs.Answer.{answer_text}
 use Rattle.sheet.specs.Sheet.{Sheet, sheet}
 use Rattle.verdict.specs.declared.Verdict.{Verdict}
 use Rattle.verdict.specs.Verdict.{verdict}
@@ -36,13 +37,13 @@ lines_of v =
       declined = v.declined;
     }
 
--- "From standard input `weigh` prints this …; on refusal one line"
-abbrev pub printed : Result Verdict ℕ → List ℕ
-printed (Ok v) = nine_lines (lines_of v)
-printed (Err number) = refusal_line number
+-- the answer with a verdict's lines in place of the verdict
+abbrev pub in_lines : Result Verdict ℕ → Result Lines ℕ
+in_lines = result_map_both lines_of (λ number. number)
 
+-- "From standard input `weigh` prints this …; on refusal one line"
 unfoldable pub text_answer : List ℕ → List ℕ
-text_answer text = printed (text_verdict text)
+text_answer text = answer_text (in_lines (text_verdict text))
 
 -- no answer is longer
 abbrev pub most_answer : ℕ

@@ -19,19 +19,6 @@ pub use text::text_verdict;
 /// No answer is longer.
 pub const MOST_ANSWER: usize = 256;
 
-/// What no line of a refusal shows.
-const NO_LINES: Lines = Lines {
-    holds: false,
-    gap: 0.0,
-    allowance: 0.0,
-    cut: 0.0,
-    zero_within_error: 0,
-    multipliers_zeroed: 0,
-    rows: 0,
-    outward: 0.0,
-    declined: false,
-};
-
 // Kept: both types are other crates', where an `impl From` is refused here; a struct of this crate round `Lines` for it is no plainer than a function.
 /// The values of the nine lines.
 fn lines_of(v: Verdict) -> Lines
@@ -59,10 +46,7 @@ pub fn weigh_text(text: &[u8], out: &mut [u8]) -> usize
     ensures no_point { IfOk (text_verdict text.now) (λ v. T v.declined → NoPoint (rows_of (sheet_in text.now)) (ranges_of (sheet_in text.now))) }
 {
     match text_verdict(text) {
-        Ok(v) => put_answer(0, lines_of(v), out),
-        Err(refusal) => {
-            let number = u32::from(refusal);
-            put_answer(number, NO_LINES, out)
-        }
+        Ok(v) => put_answer(Ok(lines_of(v)), out),
+        Err(refusal) => put_answer(Err(u32::from(refusal)), out),
     }
 }

@@ -55,7 +55,7 @@ fn verdict_in(read: Read, l: &SheetLists) -> Result<Verdict, Refusal>
     verdict_on(&s, read.widened)
 }
 
-// Kept: eighteen local arrays: a struct that owns them lists each again, in its type and where it is built, and is no plainer.
+// Kept: no heap; eighteen local arrays, since a struct that owns them lists each again, in its type and where it is built, and is no plainer.
 /// The text is read into lists of this function's own, so nothing lent changes. They have room for the largest sheet that
 /// the second question allows; of a longer one the rest is read and not kept.
 pub fn text_verdict(text: &[u8]) -> Result<Verdict, Refusal>

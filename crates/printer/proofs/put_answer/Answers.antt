@@ -5,4 +5,4 @@ use Rattle.printer.proofs.put_answer.Goals as goal
 
 pub returns-then-end-out-clause-out_after : goal.returns-then-end-out-clause-out_after
 returns-then-end-out-clause-out_after c =
-    written c.put_whole-end.ensures (omega (arith, c.put_whole-end.ensures.place, answer_short c.args.refusal c.args.lines)) c.put_text.ensures.stored c.if-end-out.true
+    written c.put_whole-end.ensures (omega (arith, c.put_whole-end.ensures.place, answer_short c.args.answer)) c.put_text.ensures.stored c.if-end-out.true

@@ -6,7 +6,7 @@ use Rattle.weigh_text.proofs.weigh_text.Goals as goal
 pub returns-in-Ok : goal.returns-in-Ok
 returns-in-Ok c =
     let all =
-    answer_is c.args.text.now c.args.out.now 0 c.lines_of.result (full_is c.args.text.now c.in-Ok.ensures.value c.lines_of.ensures)
+    answer_is c.args.text.now c.args.out.now (Ok c.lines_of.result) (full_is c.args.text.now c.in-Ok.ensures.value c.lines_of.ensures)
     c.put_answer.ensures.value c.put_answer.ensures.out_after in
     record {
       value = all.0;
@@ -18,7 +18,7 @@ returns-in-Ok c =
 pub returns-in-Err : goal.returns-in-Err
 returns-in-Err c =
     let all =
-    answer_is c.args.text.now c.args.out.now c.from-number.result _ (refused_is c.args.text.now c.in-Err.refusal _ c.in-Err.ensures.value c.from-number.ensures)
+    answer_is c.args.text.now c.args.out.now (Err c.from.result) (refused_is c.args.text.now c.in-Err.refusal c.in-Err.ensures.value c.from.ensures)
     c.put_answer-in-Err.ensures.value c.put_answer-in-Err.ensures.out_after in
     record {
       value = all.0;
