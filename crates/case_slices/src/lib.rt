@@ -4,8 +4,11 @@
 
 ghost use Rattle.std.specs.Prelude.{◌≡◌, ◌%◌, ◌≤◌, length, take, nat_lt, set, MatchOption};
 ghost use Rattle.case_slices.specs.Slices.{alike, number_of, room};
+ghost use Rattle.case_slices.specs.Cases.{lengths, lent, with_number};
+ghost use Rattle.sheet.specs.Lent.{lent_sheet};
+ghost use Rattle.sheet.specs.declared.answers.Outputs.{Outputs};
 
-use sheet::Outputs;
+use sheet::{Outputs, Sheet};
 use tables::double_of;
 
 /// A few more rows, structural variables, variables, widened items and entries than a sheet may have.
@@ -18,6 +21,12 @@ pub const VARIABLES: usize = 388;
 pub const WIDENED: usize = 776;
 
 pub const ENTRIES: usize = 4100;
+
+/// How many slices a sheet has. After them a table may name the numbers of a sheet.
+pub const SLICES: usize = 18;
+
+/// How many numbers `Numbers::put` knows.
+pub const NUMBERS: usize = 7;
 
 /// A slice of a sheet.
 #[derive(Clone, Copy)]
@@ -69,6 +78,69 @@ impl Slice {
             17 => Some(Slice::Second),
             _ => None,
         }
+    }
+}
+
+/// The numbers of a sheet, in the order in which `put` counts them.
+#[derive(Clone, Copy)]
+pub struct Numbers {
+    pub rows: usize,
+    pub structurals: usize,
+    pub entries: usize,
+    pub feasibility: f64,
+    pub checked: u8,
+    pub leaving_row: usize,
+    pub leaving_up: u8,
+}
+
+impl Numbers {
+    /// 0 everywhere.
+    pub const ZERO: Numbers = Numbers {
+        rows: 0,
+        structurals: 0,
+        entries: 0,
+        feasibility: 0.0,
+        checked: 0,
+        leaving_row: 0,
+        leaving_up: 0,
+    };
+
+    /// Puts one of the numbers, and answers whether there is one at the place.
+    pub fn put(&mut self, place: usize, value: usize) -> bool
+        ensures room { result ≡ nat_lt place 7 }
+        ensures numbers { self.new ≡ with_number self.old place value }
+    {
+        // Kept: the numbers are fields of three types, so no table of them can be looked up.
+        match place {
+            0 => self.rows = value,
+            1 => self.structurals = value,
+            2 => self.entries = value,
+            3 => self.feasibility = double_of(value as u64),
+            4 => self.checked = byte(value),
+            5 => self.leaving_row = value,
+            6 => self.leaving_up = byte(value),
+            _ => return false,
+        }
+        true
+    }
+
+    /// The length of each slice of a sheet of these sizes, which widens so many items.
+    pub fn lengths(&self, widened: usize) -> [usize; SLICES]
+        ensures { result ≡ lengths self.now widened }
+    {
+        let mut found = [self.rows.saturating_add(self.structurals); SLICES];
+        found[Slice::Starts as usize] = self.rows.saturating_add(1);
+        found[Slice::Columns as usize] = self.entries;
+        found[Slice::Entries as usize] = self.entries;
+        found[Slice::RightSides as usize] = self.rows;
+        found[Slice::Scales as usize] = self.rows;
+        found[Slice::Integer as usize] = self.structurals;
+        found[Slice::WidenedVars as usize] = widened;
+        found[Slice::WidenedUps as usize] = widened;
+        found[Slice::RhoHi as usize] = self.rows;
+        found[Slice::RhoLo as usize] = self.rows;
+        found[Slice::Second as usize] = self.rows;
+        found
     }
 }
 
@@ -145,6 +217,42 @@ impl Slices {
             Slice::RhoHi => put_at(&mut self.rho_hi, place, real),
             Slice::RhoLo => put_at(&mut self.rho_lo, place, real),
             Slice::Second => put_at(&mut self.second, place, real),
+        }
+    }
+
+    /// The sheet of the fronts of these slices, each of its length, and of the numbers.
+    pub fn lent(&self, n: &Numbers, lengths: &[usize; SLICES]) -> Sheet<'_>
+        ensures { (outputs : Outputs) → lent_sheet result outputs ≡ lent self.now n.now lengths.now outputs }
+    {
+        Sheet {
+            rows: n.rows,
+            structurals: n.structurals,
+            entry_count: n.entries,
+            feasibility: n.feasibility,
+            checked: n.checked,
+            leaving_row: n.leaving_row,
+            leaving_up: n.leaving_up,
+            starts: part(&self.starts, lengths[Slice::Starts as usize]),
+            columns: part(&self.columns, lengths[Slice::Columns as usize]),
+            entries: part(&self.entries, lengths[Slice::Entries as usize]),
+            right_sides: part(&self.right_sides, lengths[Slice::RightSides as usize]),
+            scales: part(&self.scales, lengths[Slice::Scales as usize]),
+            integer: part(&self.integer, lengths[Slice::Integer as usize]),
+            mins: part(&self.mins, lengths[Slice::Mins as usize]),
+            maxs: part(&self.maxs, lengths[Slice::Maxs as usize]),
+            low_tolerances: part(&self.low_tolerances, lengths[Slice::LowTolerances as usize]),
+            high_tolerances: part(
+                &self.high_tolerances,
+                lengths[Slice::HighTolerances as usize],
+            ),
+            basic: part(&self.basic, lengths[Slice::Basic as usize]),
+            places: part(&self.places, lengths[Slice::Places as usize]),
+            values: part(&self.values, lengths[Slice::Values as usize]),
+            widened_variables: part(&self.widened_vars, lengths[Slice::WidenedVars as usize]),
+            widened_ups: part(&self.widened_ups, lengths[Slice::WidenedUps as usize]),
+            rho_hi: part(&self.rho_hi, lengths[Slice::RhoHi as usize]),
+            rho_lo: part(&self.rho_lo, lengths[Slice::RhoLo as usize]),
+            second: part(&self.second, lengths[Slice::Second as usize]),
         }
     }
 }

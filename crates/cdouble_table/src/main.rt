@@ -39,6 +39,7 @@ enum Operation {
 const KINDS: usize = 16;
 
 // The operations in the order in which they are declared and reported.
+// Kept: arrays of a fixed size, since no program allocates and the limits are fixed.
 const OPERATIONS: [Operation; KINDS] = [
     Operation::TwoSum,
     Operation::Split,
@@ -62,12 +63,16 @@ const OPERATIONS: [Operation; KINDS] = [
 #[derive(Clone, Copy, PartialEq)]
 struct Bits(u64, u64);
 
-fn one(v: f64) -> Bits {
-    Bits(bits_of(v), 0)
+impl From<f64> for Bits {
+    fn from(v: f64) -> Bits {
+        Bits(bits_of(v), 0)
+    }
 }
 
-fn two(c: CDouble) -> Bits {
-    Bits(bits_of(c.hi), bits_of(c.lo))
+impl From<CDouble> for Bits {
+    fn from(c: CDouble) -> Bits {
+        Bits(bits_of(c.hi), bits_of(c.lo))
+    }
 }
 
 fn pair(hi: u64, lo: u64) -> CDouble {
@@ -82,22 +87,22 @@ impl Operation {
     fn answer(self, first: u64, second: u64, d: CDouble, b: f64) -> Bits {
         let c = pair(first, second);
         match self {
-            Operation::TwoSum => two(CDouble::two_sum(c.hi, c.lo)),
-            Operation::Split => two(CDouble::split(c.hi)),
-            Operation::TwoProduct => two(CDouble::two_product(c.hi, c.lo)),
-            Operation::Add => two(c.add(d.hi)),
-            Operation::AddProduct => two(c.add_product(d.hi, d.lo)),
-            Operation::AddScaled => two(c.add_scaled(d, b)),
-            Operation::Neg => two(c.neg()),
-            Operation::Normalized => two(c.normalized()),
-            Operation::AbsUp => one(c.abs_up()),
-            Operation::Value => one(c.value()),
-            Operation::RoundedUp => one(c.rounded(true)),
-            Operation::RoundedDown => one(c.rounded(false)),
-            Operation::AddUp => one(add_up(c.hi, c.lo)),
-            Operation::MulUp => one(mul_up(c.hi, c.lo)),
-            Operation::DistanceUp => one(distance_up(c.hi, c.lo)),
-            Operation::CompensatedError => one(compensated_error(
+            Operation::TwoSum => Bits::from(CDouble::two_sum(c.hi, c.lo)),
+            Operation::Split => Bits::from(CDouble::split(c.hi)),
+            Operation::TwoProduct => Bits::from(CDouble::two_product(c.hi, c.lo)),
+            Operation::Add => Bits::from(c.add(d.hi)),
+            Operation::AddProduct => Bits::from(c.add_product(d.hi, d.lo)),
+            Operation::AddScaled => Bits::from(c.add_scaled(d, b)),
+            Operation::Neg => Bits::from(c.neg()),
+            Operation::Normalized => Bits::from(c.normalized()),
+            Operation::AbsUp => Bits::from(c.abs_up()),
+            Operation::Value => Bits::from(c.value()),
+            Operation::RoundedUp => Bits::from(c.rounded(true)),
+            Operation::RoundedDown => Bits::from(c.rounded(false)),
+            Operation::AddUp => Bits::from(add_up(c.hi, c.lo)),
+            Operation::MulUp => Bits::from(mul_up(c.hi, c.lo)),
+            Operation::DistanceUp => Bits::from(distance_up(c.hi, c.lo)),
+            Operation::CompensatedError => Bits::from(compensated_error(
                 first as usize,
                 second as usize,
                 d.hi,
@@ -108,7 +113,7 @@ impl Operation {
 
 impl Tabled for Operation {
     fn from_letter(letter: u8) -> Option<Operation> {
-        // Kept: the letters of the table become operations here.
+        // Kept: the letters of the table become operations here; `TryFrom<u8>` would be no plainer, with an error that nobody reads.
         match letter {
             b'S' => Some(Operation::TwoSum),
             b'H' => Some(Operation::Split),
@@ -166,6 +171,7 @@ impl fmt::Display for Operation {
     }
 }
 
+// Kept: both mains share `each_line`, `run_line` and `Report`; one function of the rest takes more parameters than it has lines.
 fn main(rt: HostRuntime) -> io::Result<()> {
     let mut tallies = Tallies::<KINDS>::NONE;
     each_line::<LINE, _, _>(

@@ -31,6 +31,7 @@ enum Operation {
 const KINDS: usize = 10;
 
 // The operations in the order in which they are declared and reported.
+// Kept: arrays of a fixed size, since no program allocates and the limits are fixed.
 const OPERATIONS: [Operation; KINDS] = [
     Operation::Abs,
     Operation::IsFinite,
@@ -64,7 +65,7 @@ impl Operation {
 
 impl Tabled for Operation {
     fn from_letter(letter: u8) -> Option<Operation> {
-        // Kept: the letters of the table become operations here.
+        // Kept: the letters of the table become operations here; `TryFrom<u8>` would be no plainer, with an error that nobody reads.
         match letter {
             b'a' => Some(Operation::Abs),
             b'f' => Some(Operation::IsFinite),
@@ -110,6 +111,7 @@ impl fmt::Display for Operation {
     }
 }
 
+// Kept: both mains share `each_line`, `run_line` and `Report`; one function of the rest takes more parameters than it has lines.
 fn main(rt: HostRuntime) -> io::Result<()> {
     let mut tallies = Tallies::<KINDS>::NONE;
     each_line::<LINE, _, _>(

@@ -15,20 +15,17 @@
 
 ghost use Rattle.std.specs.Prelude.{◌+◌, ◌≤◌};
 
-use case_slices::{ROWS, Slice, Slices, VARIABLES, byte, outputs_alike, part};
-use sheet::{Outputs, Sheet};
+use case_slices::{Numbers, ROWS, SLICES, Slice, Slices, VARIABLES, byte, outputs_alike};
+use sheet::Outputs;
 use sheet_answers::first_no;
 use std::io;
-use tables::{Tallies, double_of, each_line, numbers};
+use tables::{Tallies, each_line, numbers};
 
 // Bytes in a line, its end included.
 const LINE: usize = 70;
 
 // The tallies have a place for each refusal's number.
 const KINDS: usize = 13;
-
-// How many slices there are. After them a line may name the lengths and numbers of a sheet.
-const SLICES: usize = 18;
 
 // No slice is longer, so no sound sheet has more of anything.
 const MOST: usize = 4100;
@@ -44,6 +41,7 @@ enum Line {
         place: usize,
         value: usize,
     },
+    // Kept: a number, 0 for none: it is compared with the table's and is the tally's place.
     Expect(usize),
 }
 
@@ -56,24 +54,13 @@ struct Shape {
     widened: usize,
 }
 
-/// The lengths and numbers of a sheet.
-#[derive(Drop)]
-struct Numbers {
-    lengths: [usize; SLICES],
-    outputs: Outputs,
-    rows: usize,
-    structurals: usize,
-    entries: usize,
-    feasibility: f64,
-    checked: u8,
-    leaving_row: usize,
-    leaving_up: u8,
-}
-
-/// The sheet of a case.
+/// The sheet of a case: its numbers, the lengths of its slices and outputs, and the slices.
 #[derive(Drop)]
 struct Case {
     numbers: Numbers,
+    // Kept: arrays of a fixed size, since no program allocates and the limits are fixed.
+    lengths: [usize; SLICES],
+    outputs: Outputs,
     slices: Slices,
 }
 
@@ -83,7 +70,7 @@ fn read_line(line: &[u8]) -> Option<Line> {
     let a = found[0] as usize;
     let b = found[1] as usize;
     let c = found[2] as usize;
-    // Kept: the letters of the table become what a line says here.
+    // Kept: the letters of the table become what a line says here; `TryFrom<u8>` would be no plainer, with an error that nobody reads.
     match line.first()? {
         b'S' => Some(Line::Sound(Shape {
             rows: a.min(MOST),
@@ -101,34 +88,22 @@ fn read_line(line: &[u8]) -> Option<Line> {
     }
 }
 
-/// The lengths and numbers of a sound sheet. Each row has its dense entries and its slack's.
-fn sound_numbers(shape: Shape) -> Numbers {
+/// A sound sheet, as far as there is room. Each row has its dense entries and its slack's.
+fn sound_case(shape: Shape) -> Case {
     let rows = shape.rows;
     let structurals = shape.structurals;
-    let entries = rows.saturating_mul(shape.dense.saturating_add(1));
-    let variables = structurals.saturating_add(rows);
-    let mut lengths = [variables; SLICES];
-    lengths[Slice::Starts as usize] = rows.saturating_add(1);
-    lengths[Slice::Columns as usize] = entries;
-    lengths[Slice::Entries as usize] = entries;
-    lengths[Slice::RightSides as usize] = rows;
-    lengths[Slice::Scales as usize] = rows;
-    lengths[Slice::Integer as usize] = structurals;
-    lengths[Slice::WidenedVars as usize] = shape.widened;
-    lengths[Slice::WidenedUps as usize] = shape.widened;
-    lengths[Slice::RhoHi as usize] = rows;
-    lengths[Slice::RhoLo as usize] = rows;
-    lengths[Slice::Second as usize] = rows;
-    Numbers {
-        lengths,
-        outputs: outputs_alike(variables),
+    let numbers = Numbers {
         rows,
         structurals,
-        entries,
+        entries: rows.saturating_mul(shape.dense.saturating_add(1)),
         feasibility: 1e-7,
-        checked: 0,
-        leaving_row: 0,
-        leaving_up: 0,
+        ..Numbers::ZERO
+    };
+    Case {
+        numbers,
+        lengths: numbers.lengths(shape.widened),
+        outputs: outputs_alike(structurals.saturating_add(rows)),
+        slices: sound_slices(shape),
     }
 }
 
@@ -186,10 +161,10 @@ fn entry(k: usize, dense: usize) -> f64 {
     }
 }
 
-impl Numbers {
+impl Case {
     /// Puts one of the lengths and numbers, and answers whether there is one at the place.
-    fn put(&mut self, place: usize, value: usize) -> bool {
-        // Kept: the numbers are fields of three types, so no table of them can be looked up.
+    fn put_number(&mut self, place: usize, value: usize) -> bool {
+        // Kept: the outputs' lengths and the numbers are fields, so no table of them can be looked up.
         match place {
             0..SLICES => self.lengths[place] = value,
             18 => self.outputs.high = value,
@@ -197,70 +172,28 @@ impl Numbers {
             20 => self.outputs.magnitudes = value,
             21 => self.outputs.terms = value,
             22 => self.outputs.errors = value,
-            23 => self.rows = value,
-            24 => self.structurals = value,
-            25 => self.entries = value,
-            26 => self.feasibility = double_of(value as u64),
-            27 => self.checked = byte(value),
-            28 => self.leaving_row = value,
-            29 => self.leaving_up = byte(value),
-            _ => return false,
+            _ => return self.numbers.put(place.saturating_sub(23), value),
         }
         true
     }
 
-    /// The length of a slice.
-    fn length(&self, slice: Slice) -> usize {
-        self.lengths.get(slice as usize).copied().unwrap_or(0)
+    /// Puts a value at a place of a slice, or of the lengths and numbers, and answers whether there is such a place.
+    fn put(&mut self, slice: usize, place: usize, value: usize) -> bool {
+        match Slice::from_number(slice) {
+            Some(slice) => self.slices.put(slice, place, value),
+            None => slice == SLICES && self.put_number(place, value),
+        }
     }
-}
 
-/// Puts a value at a place of a slice, or of the lengths and numbers, and answers whether there is such a place.
-fn put(case: &mut Case, slice: usize, place: usize, value: usize) -> bool {
-    match Slice::from_number(slice) {
-        Some(slice) => case.slices.put(slice, place, value),
-        None => slice == SLICES && case.numbers.put(place, value),
-    }
-}
-
-/// The sheet of a case, as it is lent.
-fn lent(case: &Case) -> Sheet<'_> {
-    let n = &case.numbers;
-    let s = &case.slices;
-    Sheet {
-        rows: n.rows,
-        structurals: n.structurals,
-        entry_count: n.entries,
-        feasibility: n.feasibility,
-        checked: n.checked,
-        leaving_row: n.leaving_row,
-        leaving_up: n.leaving_up,
-        starts: part(&s.starts, n.length(Slice::Starts)),
-        columns: part(&s.columns, n.length(Slice::Columns)),
-        entries: part(&s.entries, n.length(Slice::Entries)),
-        right_sides: part(&s.right_sides, n.length(Slice::RightSides)),
-        scales: part(&s.scales, n.length(Slice::Scales)),
-        integer: part(&s.integer, n.length(Slice::Integer)),
-        mins: part(&s.mins, n.length(Slice::Mins)),
-        maxs: part(&s.maxs, n.length(Slice::Maxs)),
-        low_tolerances: part(&s.low_tolerances, n.length(Slice::LowTolerances)),
-        high_tolerances: part(&s.high_tolerances, n.length(Slice::HighTolerances)),
-        basic: part(&s.basic, n.length(Slice::Basic)),
-        places: part(&s.places, n.length(Slice::Places)),
-        values: part(&s.values, n.length(Slice::Values)),
-        widened_variables: part(&s.widened_vars, n.length(Slice::WidenedVars)),
-        widened_ups: part(&s.widened_ups, n.length(Slice::WidenedUps)),
-        rho_hi: part(&s.rho_hi, n.length(Slice::RhoHi)),
-        rho_lo: part(&s.rho_lo, n.length(Slice::RhoLo)),
-        second: part(&s.second, n.length(Slice::Second)),
-    }
-}
-
-/// The number of the first question that refuses the sheet, 0 for none.
-fn answer(case: &Case) -> usize {
-    match first_no(&lent(case), case.numbers.outputs) {
-        Ok(()) => 0,
-        Err(refusal) => u32::from(refusal) as usize,
+    /// The number of the first question that refuses the sheet, 0 for none.
+    fn answer(&self) -> usize {
+        match first_no(
+            &self.slices.lent(&self.numbers, &self.lengths),
+            self.outputs,
+        ) {
+            Ok(()) => 0,
+            Err(refusal) => u32::from(refusal) as usize,
+        }
     }
 }
 
@@ -274,8 +207,7 @@ fn run_line(
 ) -> io::Result<()> {
     let done = match read_line(line) {
         Some(Line::Sound(shape)) => {
-            case.numbers = sound_numbers(shape);
-            case.slices = sound_slices(shape);
+            *case = sound_case(shape);
             true
         }
         Some(
@@ -284,9 +216,9 @@ fn run_line(
                 place,
                 value,
             },
-        ) => put(case, slice, place, value),
+        ) => case.put(slice, place, value),
         Some(Line::Expect(refusal)) => {
-            return tallies.case(rt, refusal, answer(case) == refusal, line);
+            return tallies.case(rt, refusal, case.answer() == refusal, line);
         }
         None => false,
     };
@@ -310,17 +242,9 @@ fn report(rt: &impl Print, tallies: &Tallies<KINDS>) -> io::Result<()> {
 fn main(rt: HostRuntime) -> io::Result<()> {
     let mut tallies = Tallies::<KINDS>::NONE;
     let mut case = Case {
-        numbers: Numbers {
-            lengths: [0; SLICES],
-            outputs: outputs_alike(0),
-            rows: 0,
-            structurals: 0,
-            entries: 0,
-            feasibility: 0.0,
-            checked: 0,
-            leaving_row: 0,
-            leaving_up: 0,
-        },
+        numbers: Numbers::ZERO,
+        lengths: [0; SLICES],
+        outputs: outputs_alike(0),
         slices: Slices::ZERO,
     };
     each_line::<LINE, _, _>(

@@ -22,12 +22,11 @@
 ghost use Rattle.std.specs.Prelude.{◌≤◌, length};
 
 use added_row::Lists;
-use case_slices::{Slice, Slices, byte, outputs_alike, part};
+use case_slices::{NUMBERS, Numbers, SLICES, Slice, Slices, outputs_alike};
 use judgement::Proof;
 use kept::proof_of;
 use outward_sheet::outward_of;
 use refusal_numbers::Refusal;
-use sheet::Sheet;
 use std::io;
 use tables::{Tally, bits_of, count, double_of, each_line, numbers};
 
@@ -39,9 +38,6 @@ const CLASSES: usize = 12;
 
 // How many lines that differ are printed.
 const SHOWN: u64 = 20;
-
-// How many slices there are. After them a line may name the numbers of a sheet.
-const SLICES: usize = 18;
 
 // The places of an output, and what they have before a sheet is run.
 const OUTPUT: usize = 400;
@@ -71,18 +67,6 @@ struct Shape {
     class: usize,
 }
 
-/// The numbers of a sheet.
-#[derive(Clone, Copy)]
-struct Numbers {
-    feasibility: f64,
-    checked: u8,
-    leaving_row: usize,
-    leaving_up: u8,
-    rows: usize,
-    structurals: usize,
-    entries: usize,
-}
-
 /// An output.
 #[derive(Clone, Copy, PartialEq)]
 enum Output {
@@ -96,6 +80,7 @@ enum Output {
 /// What the outputs have after a sheet is run.
 #[derive(Clone, Copy)]
 struct Written {
+    // Kept: arrays of a fixed size, since no program allocates and the limits are fixed.
     high: [f64; OUTPUT],
     low: [f64; OUTPUT],
     magnitudes: [f64; OUTPUT],
@@ -116,6 +101,7 @@ enum Next {
 struct Case {
     shape: Shape,
     numbers: Numbers,
+    lengths: [usize; SLICES],
     slices: Slices,
     written: Written,
     next: Next,
@@ -130,69 +116,27 @@ struct Counts {
     lines: u64,
 }
 
-/// An answer as it stands on a line, doubles as their patterns.
-// Kept: it is compared with the numbers of a line, so the refusal and the flag are the numbers that stand there.
-#[derive(Clone, Copy, PartialEq)]
-struct Answer {
-    refusal: usize,
-    holds: usize,
-    gap: usize,
-    allowance: usize,
-    cut: usize,
-    zero_within_error: usize,
-    multipliers_zeroed: usize,
-    rows: usize,
+/// A case, and what was counted so far.
+#[derive(Drop)]
+struct Run {
+    case: Case,
+    counts: Counts,
 }
 
-impl Answer {
-    /// The one on a line.
-    fn on_line(a: [usize; 8]) -> Answer {
-        let [
-            refusal,
-            holds,
-            gap,
-            allowance,
-            cut,
-            zero_within_error,
-            multipliers_zeroed,
-            rows,
-        ] = a;
-        Answer {
-            refusal,
-            holds,
-            gap,
-            allowance,
-            cut,
-            zero_within_error,
-            multipliers_zeroed,
-            rows,
-        }
-    }
-
-    /// The one of a sheet. All but its number is 0 where a question refuses it.
-    fn of(found: Result<Proof, Refusal>) -> Answer {
-        match found {
-            Ok(p) => Answer {
-                refusal: 0,
-                holds: usize::from(p.holds),
-                gap: bits_of(p.gap) as usize,
-                allowance: bits_of(p.allowance) as usize,
-                cut: bits_of(p.cut) as usize,
-                zero_within_error: p.zero_within_error,
-                multipliers_zeroed: p.multipliers_zeroed,
-                rows: p.rows,
-            },
-            Err(refusal) => Answer {
-                refusal: u32::from(refusal) as usize,
-                holds: 0,
-                gap: 0,
-                allowance: 0,
-                cut: 0,
-                zero_within_error: 0,
-                multipliers_zeroed: 0,
-                rows: 0,
-            },
-        }
+/// The answer of a sheet as it stands on a line, doubles as their patterns. All but the refusal is 0 where there is one.
+fn numbers_of(found: Result<Proof, Refusal>) -> [usize; 8] {
+    match found {
+        Ok(p) => [
+            0,
+            usize::from(p.holds),
+            bits_of(p.gap) as usize,
+            bits_of(p.allowance) as usize,
+            bits_of(p.cut) as usize,
+            p.zero_within_error,
+            p.multipliers_zeroed,
+            p.rows,
+        ],
+        Err(refusal) => [u32::from(refusal) as usize, 0, 0, 0, 0, 0, 0, 0],
     }
 }
 
@@ -265,56 +209,11 @@ impl Shape {
         self.rows.saturating_add(self.structurals)
     }
 
-    /// The length of a slice.
-    fn length(self, slice: Slice) -> usize {
-        // Kept: a length is worked out from the shape, so no table has it.
-        match slice {
-            Slice::Starts => self.rows.saturating_add(1),
-            Slice::Columns | Slice::Entries => self.entries,
-            Slice::RightSides | Slice::Scales | Slice::RhoHi | Slice::RhoLo | Slice::Second =>
-                self.rows,
-            Slice::Integer => self.structurals,
-            Slice::WidenedVars | Slice::WidenedUps => self.widened,
-            _ => self.variables(),
-        }
-    }
-
     /// The length of each output.
     fn outputs(self) -> usize
         ensures { result ≤ 400 }
     {
         self.variables().saturating_add(self.extra).min(OUTPUT)
-    }
-}
-
-impl Numbers {
-    /// Those of a new sheet.
-    fn new(shape: Shape) -> Numbers {
-        Numbers {
-            feasibility: 0.0,
-            checked: 0,
-            leaving_row: 0,
-            leaving_up: 0,
-            rows: shape.rows,
-            structurals: shape.structurals,
-            entries: shape.entries,
-        }
-    }
-
-    /// Puts one of the numbers, and answers whether there is one at the place.
-    fn put(&mut self, place: usize, value: usize) -> bool {
-        // Kept: the numbers are fields of three types, so no table of them can be looked up.
-        match place {
-            0 => self.feasibility = double_of(value as u64),
-            1 => self.checked = byte(value),
-            2 => self.leaving_row = value,
-            3 => self.leaving_up = byte(value),
-            4 => self.rows = value,
-            5 => self.structurals = value,
-            6 => self.entries = value,
-            _ => return false,
-        }
-        true
     }
 }
 
@@ -362,33 +261,68 @@ fn pattern_at(output: &[f64], place: usize) -> Option<usize> {
 impl Case {
     /// A new sheet: 0 everywhere, but for its sizes.
     fn new(shape: Shape) -> Case {
+        let numbers = Numbers {
+            rows: shape.rows,
+            structurals: shape.structurals,
+            entries: shape.entries,
+            ..Numbers::ZERO
+        };
         Case {
             shape,
-            numbers: Numbers::new(shape),
+            numbers,
+            lengths: numbers.lengths(shape.widened),
             slices: Slices::ZERO,
             written: Written::new(),
             next: Next::Nothing,
             sound: false,
         }
     }
-}
 
-/// Puts a value at a place of a slice, or of the numbers, and answers whether there is such a place.
-fn put(case: &mut Case, slice: usize, place: usize, value: usize) -> bool {
-    match Slice::from_number(slice) {
-        Some(slice) => place < case.shape.length(slice) && case.slices.put(slice, place, value),
-        None => slice == SLICES && case.numbers.put(place, value),
-    }
-}
-
-/// Puts the values of a line into a slice from a place on, and answers whether it has such places.
-fn put_values(case: &mut Case, slice: usize, place: usize, values: &[usize]) -> bool {
-    for (k, value) in values.iter().enumerate() {
-        if !put(case, slice, place.saturating_add(k), *value) {
-            return false;
+    /// Puts a value at a place of a slice, or of the numbers, and answers whether there is such a place.
+    fn put(&mut self, slice: usize, place: usize, value: usize) -> bool {
+        match Slice::from_number(slice) {
+            Some(slice) => place < self.lengths[slice as usize]
+                && self.slices.put(slice, place, value),
+            // A line has the sizes after the other numbers.
+            None => slice == SLICES
+                && place < NUMBERS
+                && self.numbers.put((place + 3) % NUMBERS, value),
         }
     }
-    true
+
+    /// Puts the values of a line into a slice from a place on, and answers whether it has such places.
+    fn put_values(&mut self, slice: usize, place: usize, values: &[usize]) -> bool {
+        for (k, value) in values.iter().enumerate() {
+            if !self.put(slice, place.saturating_add(k), *value) {
+                return false;
+            }
+        }
+        true
+    }
+
+    /// The outward gap of the sheet, whose outputs have the lengths that `answer` lends.
+    fn outward(&self) -> Result<f64, Refusal> {
+        outward_of(
+            &self.slices.lent(&self.numbers, &self.lengths),
+            outputs_alike(self.shape.outputs()),
+        )
+    }
+
+    /// The answer of the sheet. Keeps what its outputs have then.
+    fn answer(&mut self) -> Result<Proof, Refusal> {
+        let n = self.shape.outputs();
+        let mut w = Written::new();
+        let mut l = Lists {
+            high: &mut w.high[..n],
+            low: &mut w.low[..n],
+            magnitudes: &mut w.magnitudes[..n],
+            terms: &mut w.terms[..n],
+        };
+        let sheet = self.slices.lent(&self.numbers, &self.lengths);
+        let found = proof_of(&sheet, &mut l, &mut w.errors[..n]);
+        self.written = w;
+        found
+    }
 }
 
 /// The values of a line that has a number for a place's, and from 1 to 5 values.
@@ -399,60 +333,6 @@ fn values_of(a: &[usize; 8]) -> Option<&[usize]> {
     } else {
         None
     }
-}
-
-/// The sheet of a case, as it is lent.
-fn lent(case: &Case) -> Sheet<'_> {
-    let n = &case.numbers;
-    let s = &case.slices;
-    let shape = case.shape;
-    Sheet {
-        rows: n.rows,
-        structurals: n.structurals,
-        entry_count: n.entries,
-        feasibility: n.feasibility,
-        checked: n.checked,
-        leaving_row: n.leaving_row,
-        leaving_up: n.leaving_up,
-        starts: part(&s.starts, shape.length(Slice::Starts)),
-        columns: part(&s.columns, shape.length(Slice::Columns)),
-        entries: part(&s.entries, shape.length(Slice::Entries)),
-        right_sides: part(&s.right_sides, shape.length(Slice::RightSides)),
-        scales: part(&s.scales, shape.length(Slice::Scales)),
-        integer: part(&s.integer, shape.length(Slice::Integer)),
-        mins: part(&s.mins, shape.length(Slice::Mins)),
-        maxs: part(&s.maxs, shape.length(Slice::Maxs)),
-        low_tolerances: part(&s.low_tolerances, shape.length(Slice::LowTolerances)),
-        high_tolerances: part(&s.high_tolerances, shape.length(Slice::HighTolerances)),
-        basic: part(&s.basic, shape.length(Slice::Basic)),
-        places: part(&s.places, shape.length(Slice::Places)),
-        values: part(&s.values, shape.length(Slice::Values)),
-        widened_variables: part(&s.widened_vars, shape.length(Slice::WidenedVars)),
-        widened_ups: part(&s.widened_ups, shape.length(Slice::WidenedUps)),
-        rho_hi: part(&s.rho_hi, shape.length(Slice::RhoHi)),
-        rho_lo: part(&s.rho_lo, shape.length(Slice::RhoLo)),
-        second: part(&s.second, shape.length(Slice::Second)),
-    }
-}
-
-/// The outward gap of a sheet, whose outputs have the lengths that `run` lends.
-fn outward_answer(case: &Case) -> Result<f64, Refusal> {
-    outward_of(&lent(case), outputs_alike(case.shape.outputs()))
-}
-
-/// Runs a sheet, and keeps what its outputs have then.
-fn run(case: &mut Case) -> Answer {
-    let n = case.shape.outputs();
-    let mut w = Written::new();
-    let mut l = Lists {
-        high: &mut w.high[..n],
-        low: &mut w.low[..n],
-        magnitudes: &mut w.magnitudes[..n],
-        terms: &mut w.terms[..n],
-    };
-    let found = proof_of(&lent(case), &mut l, &mut w.errors[..n]);
-    case.written = w;
-    Answer::of(found)
 }
 
 /// Whether an outward gap is the one on a line, and not above the exact one there, or −infinity.
@@ -510,92 +390,10 @@ fn agreeing(tally: Tally) -> Tally {
     }
 }
 
-/// Takes in whether what a line says of a sheet agrees. After the last place a sheet that agrees is counted.
-fn settle(
-    rt: &impl Print,
-    ok: bool,
-    line: &[u8],
-    case: &mut Case,
-    counts: &mut Counts,
-) -> io::Result<()> {
-    if !ok {
-        case.sound = false;
-        counts.show(rt, line)?;
-    }
-    if case.next == Next::Nothing && case.sound {
-        counts.agree(case.shape.class);
-    }
-    Ok(())
-}
-
-/// Runs a sheet whose answer is on a line.
-fn run_sheet(
-    rt: &impl Print,
-    line: &[u8],
-    a: [usize; 8],
-    case: &mut Case,
-    counts: &mut Counts,
-) -> io::Result<()> {
-    counts.open(case.shape.class);
-    case.next = Next::Gaps;
-    case.sound = true;
-    let ok = run(case) == Answer::on_line(a);
-    settle(rt, ok, line, case, counts)
-}
-
-/// Reckons outward a sheet whose gaps are on a line, if it was run just before.
-fn compare_gaps(
-    rt: &impl Print,
-    line: &[u8],
-    a: [usize; 8],
-    case: &mut Case,
-    counts: &mut Counts,
-) -> io::Result<()> {
-    if case.next != Next::Gaps {
-        return counts.refuse(rt, line);
-    }
-    case.next = if case.shape.outputs() == 0 {
-        Next::Nothing
-    } else {
-        Next::Place(Output::High, 0)
-    };
-    let ok = gap_agrees(outward_answer(case), a);
-    settle(rt, ok, line, case, counts)
-}
-
-/// Compares places of an output, if they are those to be compared next.
-fn compare(
-    rt: &impl Print,
-    line: &[u8],
-    a: [usize; 8],
-    case: &mut Case,
-    counts: &mut Counts,
-) -> io::Result<()> {
-    let place = a[1];
-    let Some(output) = Output::from_number(a[0]) else {
-        return counts.refuse(rt, line);
-    };
-    let Some(values) = values_of(&a) else {
-        return counts.refuse(rt, line);
-    };
-    let end = place.saturating_add(values.len());
-    let length = case.shape.outputs();
-    if case.next != Next::Place(output, place) || length < end {
-        return counts.refuse(rt, line);
-    }
-    case.next = if end < length {
-        Next::Place(output, end)
-    } else {
-        output.after()
-    };
-    let ok = case.written.has(output, place, values);
-    settle(rt, ok, line, case, counts)
-}
-
 /// What a line says. One of another form says nothing.
 fn read_line(line: &[u8]) -> Option<Line> {
     let a = numbers::<8>(line)?.map(|n| n as usize);
-    // Kept: the letters of the table become what a line says here.
+    // Kept: the letters of the table become what a line says here; `TryFrom<u8>` would be no plainer, with an error that nobody reads.
     match line.first()? {
         b'S' => Some(Line::New(a)),
         b'D' => Some(Line::Fill(a)),
@@ -606,39 +404,99 @@ fn read_line(line: &[u8]) -> Option<Line> {
     }
 }
 
-/// Makes a new sheet, and answers whether there is room for it.
-fn make(a: [usize; 8], case: &mut Case) -> bool {
-    match Shape::on_line(a) {
-        Some(shape) => {
-            *case = Case::new(shape);
-            true
+impl Run {
+    /// Takes in whether what a line says of a sheet agrees. After the last place a sheet that agrees is counted.
+    fn settle(&mut self, rt: &impl Print, line: &[u8], ok: bool) -> io::Result<()> {
+        if !ok {
+            self.case.sound = false;
+            self.counts.show(rt, line)?;
         }
-        None => false,
-    }
-}
-
-/// Puts the values of a line into a slice, and answers whether it has such places.
-fn fill(a: [usize; 8], case: &mut Case) -> bool {
-    match values_of(&a) {
-        Some(values) => put_values(case, a[0], a[1], values),
-        None => false,
-    }
-}
-
-/// Runs a line.
-fn run_line(rt: &impl Print, line: &[u8], case: &mut Case, counts: &mut Counts) -> io::Result<()> {
-    let done = match read_line(line) {
-        Some(Line::New(a)) => make(a, case),
-        Some(Line::Fill(a)) => fill(a, case),
-        Some(Line::Run(a)) => return run_sheet(rt, line, a, case, counts),
-        Some(Line::Gaps(a)) => return compare_gaps(rt, line, a, case, counts),
-        Some(Line::List(a)) => return compare(rt, line, a, case, counts),
-        None => false,
-    };
-    if done {
+        if self.case.next == Next::Nothing && self.case.sound {
+            self.counts.agree(self.case.shape.class);
+        }
         Ok(())
-    } else {
-        counts.refuse(rt, line)
+    }
+
+    /// Runs a sheet whose answer is on a line.
+    fn run_sheet(&mut self, rt: &impl Print, line: &[u8], a: [usize; 8]) -> io::Result<()> {
+        self.counts.open(self.case.shape.class);
+        self.case.next = Next::Gaps;
+        self.case.sound = true;
+        let ok = numbers_of(self.case.answer()) == a;
+        self.settle(rt, line, ok)
+    }
+
+    /// Reckons outward a sheet whose gaps are on a line, if it was run just before.
+    fn compare_gaps(&mut self, rt: &impl Print, line: &[u8], a: [usize; 8]) -> io::Result<()> {
+        if self.case.next != Next::Gaps {
+            return self.counts.refuse(rt, line);
+        }
+        self.case.next = if self.case.shape.outputs() == 0 {
+            Next::Nothing
+        } else {
+            Next::Place(Output::High, 0)
+        };
+        let ok = gap_agrees(self.case.outward(), a);
+        self.settle(rt, line, ok)
+    }
+
+    /// Compares places of an output, if they are those to be compared next.
+    fn compare(&mut self, rt: &impl Print, line: &[u8], a: [usize; 8]) -> io::Result<()> {
+        let place = a[1];
+        let Some(output) = Output::from_number(a[0]) else {
+            return self.counts.refuse(rt, line);
+        };
+        let Some(values) = values_of(&a) else {
+            return self.counts.refuse(rt, line);
+        };
+        let end = place.saturating_add(values.len());
+        let length = self.case.shape.outputs();
+        if self.case.next != Next::Place(output, place) || length < end {
+            return self.counts.refuse(rt, line);
+        }
+        self.case.next = if end < length {
+            Next::Place(output, end)
+        } else {
+            output.after()
+        };
+        let ok = self.case.written.has(output, place, values);
+        self.settle(rt, line, ok)
+    }
+
+    /// Makes a new sheet, and answers whether there is room for it.
+    fn make(&mut self, a: [usize; 8]) -> bool {
+        match Shape::on_line(a) {
+            Some(shape) => {
+                self.case = Case::new(shape);
+                true
+            }
+            None => false,
+        }
+    }
+
+    /// Puts the values of a line into a slice, and answers whether it has such places.
+    fn fill(&mut self, a: [usize; 8]) -> bool {
+        match values_of(&a) {
+            Some(values) => self.case.put_values(a[0], a[1], values),
+            None => false,
+        }
+    }
+
+    /// Runs a line.
+    fn run_line(&mut self, rt: &impl Print, line: &[u8]) -> io::Result<()> {
+        let done = match read_line(line) {
+            Some(Line::New(a)) => self.make(a),
+            Some(Line::Fill(a)) => self.fill(a),
+            Some(Line::Run(a)) => return self.run_sheet(rt, line, a),
+            Some(Line::Gaps(a)) => return self.compare_gaps(rt, line, a),
+            Some(Line::List(a)) => return self.compare(rt, line, a),
+            None => false,
+        };
+        if done {
+            Ok(())
+        } else {
+            self.counts.refuse(rt, line)
+        }
     }
 }
 
@@ -654,11 +512,10 @@ fn report(rt: &impl Print, counts: &Counts) -> io::Result<()> {
 }
 
 fn main(rt: HostRuntime) -> io::Result<()> {
-    let mut counts = Counts::NONE;
-    let mut case = Case::new(Shape::EMPTY);
-    each_line::<LINE, _, _>(
-        &mut rt.stdin(),
-        &mut |line| { run_line(&rt, line, &mut case, &mut counts) },
-    )?;
-    report(&rt, &counts)
+    let mut run = Run {
+        case: Case::new(Shape::EMPTY),
+        counts: Counts::NONE,
+    };
+    each_line::<LINE, _, _>(&mut rt.stdin(), &mut |line| run.run_line(&rt, line))?;
+    report(&rt, &run.counts)
 }

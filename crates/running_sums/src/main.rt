@@ -11,8 +11,7 @@ ghost use Rattle.cdouble.specs.Compensated.{pair, plus, plus_scaled, plus_zero};
 use cdouble::CDouble;
 use lent_sums::{cdouble_add, cdouble_add_scaled};
 use std::io;
-use stored_text::put_double;
-use tables::{double_of, each_line, number};
+use tables::{bits_of, double_of, each_line, number};
 
 // Bytes in a line, its end included.
 const LINE: usize = 34;
@@ -79,12 +78,7 @@ fn add_line(rt: &impl Print, sums: &mut Sums, line: &[u8]) -> io::Result<()> {
 
 // Writes both parts of a sum after its name.
 fn report(rt: &impl Print, name: &str, c: CDouble) -> io::Result<()> {
-    let mut line = [b' '; LINE];
-    line[33] = b'\n';
-    put_double(&mut line, 0, c.hi);
-    put_double(&mut line, 17, c.lo);
-    rt.print(name)?;
-    rt.write_all(&line)
+    println!(rt; "{name} {:016X} {:016X}", bits_of(c.hi), bits_of(c.lo))
 }
 
 fn main(rt: HostRuntime) -> io::Result<()> {
@@ -94,6 +88,6 @@ fn main(rt: HostRuntime) -> io::Result<()> {
         dot: zero,
     };
     each_line::<LINE, _, _>(&mut rt.stdin(), &mut |line| add_line(&rt, &mut sums, line))?;
-    report(&rt, "sum ", sums.sum)?;
-    report(&rt, "dot ", sums.dot)
+    report(&rt, "sum", sums.sum)?;
+    report(&rt, "dot", sums.dot)
 }
