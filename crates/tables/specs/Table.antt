@@ -1,9 +1,10 @@
 -- The numbers of a table, as its bytes spell them, and tallies of its cases. Assumes nothing.
-use Rattle.std.specs.Prelude.{ℕ, zero, suc, ◌≡◌, ◌+◌, ◌*◌, min, List, length, Bool, cond, get_or, set, Option, Some, Result, Ok}
+use Rattle.std.specs.Prelude.{ℕ, zero, suc, ◌≡◌, ◌+◌, ◌*◌, ◌<◌, min, List, ◌++◌, length, Bool, cond, get_or, set, Option, Some, Result, Ok}
 use denote.Ref.{Bor}
 use Rattle.std.specs.Option.{option_and_then}
 use Rattle.std.specs.Fn.{Mut, CalledAt}
-use Rattle.std.specs.List.{All, FoldsTo}
+use Rattle.std.specs.List.{All, FoldsTo, concat}
+use Rattle.std.specs.Io.KnownBytes.{Consumes}
 use Rattle.hex_digits.specs.Digit.{digit_of}
 use Rattle.tables.specs.declared.tally.Tally.{Tally}
 
@@ -24,9 +25,16 @@ one_more agrees t =
 abbrev pub counted : Bool → List Tally → ℕ → List Tally
 counted agrees l at = set l at (one_more agrees (get_or l at (record { ran = 0; differ = 0 })))
 
--- the lines, each of this length, and of this count, took a closure from a state to another, one call for each, and each call went well
-pub record RunsLines {F E : Type 0} (calls : Mut F (Bor (List ℕ) × Unit {0}) (Result (Unit {0}) E)) (size count : ℕ) (first last : F) : Type 0 where
+-- the lines, each of this length, and of this count, are what the input gave and the rest of a last line that it cut short;
+-- they took a closure from a state to another, one call for each, and each call went well
+pub record RunsLines {F E : Type 0} (calls : Mut F (Bor (List ℕ) × Unit {0}) (Result (Unit {0}) E)) (size count : ℕ)
+    (before after : Option (List ℕ)) (first last : F) : Type 0 where
   pub lines : List (List ℕ)
+  pub taken : List ℕ
+  pub rest : List ℕ
   pub all : length lines ≡ count
   pub long : All (λ line. length line ≡ size) lines
+  pub source : Consumes before after taken
+  pub bytes : concat lines ≡ taken ++ rest
+  pub short : 0 < size → length rest < size
   pub ran : FoldsTo (λ before line after. CalledAt calls before line (Ok tt) after) first lines last

@@ -3,7 +3,7 @@
 
 #![tactic(auto)]
 
-ghost use Rattle.std.specs.Prelude.{◌≡◌, ℕ, ◌+◌, ◌*◌, ◌<◌, ◌≤◌, get_or, length, take, IfOk, IfSome};
+ghost use Rattle.std.specs.Prelude.{◌≡◌, ℕ, ◌+◌, ◌-◌, ◌*◌, ◌^◌, ◌<◌, ◌≤◌, get_or, length, take, IfOk, IfSome};
 ghost use Rattle.std.specs.Io.{ReadsAtMost};
 ghost use Rattle.std.specs.Io.KnownBytes.{Consumes, IsAtEnd};
 ghost use Rattle.tables.specs.Table.{digits, RunsLines};
@@ -36,16 +36,18 @@ pub fn read_full<R: Read>(input: &mut R, bytes: &mut [u8]) -> io::Result<usize>
     Ok(done)
 }
 
-/// Runs each line of the input, until there is none left or an error comes, and answers how many there were. What is left
-/// of a line cut short is 0, so such a line has not the form of one. Nothing says that the input ends, and a proved loop
-/// has to: no run uses its turns up.
+/// Runs each line of the input, until there is none left or an error comes, and answers how many there were. Behind what
+/// came of a line cut short stand zeros, unless the reader wrote there, so what came has not the form of a line. Nothing
+/// says that the input ends, and a proved loop has to: no run uses its turns up.
 pub fn each_line<const LINE: usize, I: Read, F: FnMut(&[u8]) -> io::Result<()>>(
     input: &mut I,
     run: &mut F,
 ) -> io::Result<u64>
     requires length { LINE ≤ 4096 }
     requires callable { F.IsAlwaysCallable run.old }
-    ensures ran { IfOk result (λ n. RunsLines F.FnMut LINE n run.old run.new) }
+    ensures ran { IfOk result (λ n.
+        RunsLines F.FnMut LINE n (I.remaining input.old) (I.remaining input.new) run.old run.new) }
+    ensures end { IfOk result (λ n. 0 < LINE → n < 2 ^ 64 - 1 → IsAtEnd (I.remaining input.new)) }
 {
     for done in 0..u64::MAX {
         // Kept: an array of the largest size, since there is no heap and the limits are fixed.
