@@ -2,7 +2,7 @@
 use mathlib.Core.Path.{◌≡◌, refl}
 use mathlib.Core.Bool.{true}
 use lib.Ieee.{of_bits, to_bits, binary64}
-use Rattle.std.specs.Prelude.{Ok, Err}
+use Rattle.std.specs.Prelude.{◌++◌, Ok, Err}
 use Rattle.printer.specs.declared.Lines.{Lines}
 use Rattle.text_words.specs.Text.{bytes}
 use Rattle.stored_text.specs.Digits.{digits, digit_count}
@@ -22,7 +22,10 @@ verdict =
       declined = true;
     }
 
-nine_lines_lem : answer_text (Ok verdict) ≡ bytes "(holds yes)\n(gap 4000000000000000)\n(allowance 39F8000000000000)\n(cut 3CB0000000000324)\n(zero-within-error 0)\n(multipliers-zeroed 0)\n(rows 1)\n(outward 4000000000000000)\n(declined yes)\n"
+nine_lines_lem :
+    answer_text (Ok verdict)
+    ≡ bytes "(holds yes)\n(gap 4000000000000000)\n(allowance 39F8000000000000)\n(cut 3CB0000000000324)\n"
+    ++ bytes "(zero-within-error 0)\n(multipliers-zeroed 0)\n(rows 1)\n(outward 4000000000000000)\n(declined yes)\n"
 unfolding digits digit_count line nine_lines to_bits of_bits
 nine_lines_lem = refl
 
