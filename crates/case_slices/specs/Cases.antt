@@ -7,7 +7,8 @@ use Rattle.sheet.specs.Sheet.{Sheet, sheet}
 use Rattle.case_slices.specs.declared.Numbers.{Numbers}
 use Rattle.case_slices.specs.declared.Slices.{Slices}
 use Rattle.case_slices.specs.declared.Slice.{Slice}
-use Rattle.case_slices.specs.declared.Slice.TheVariants.{Starts, Columns, Entries, RightSides, Scales, Integer, Mins, Maxs, LowTolerances, HighTolerances, Basic, Places, Values, WidenedVars, WidenedUps, RhoHi, RhoLo, Second}
+use Rattle.case_slices.specs.declared.Slice.TheVariants.{Starts, Columns, Entries, RightSides, Scales, Integer, Mins, Maxs, LowTolerances, HighTolerances}
+use Rattle.case_slices.specs.declared.Slice.TheVariants.{Basic, Places, Values, WidenedVars, WidenedUps, RhoHi, RhoLo, Second}
 use Rattle.case_slices.specs.Slices.{number_of}
 
 -- the numbers with one of them put, a double as its pattern, a flag as its last eight bits

@@ -2,7 +2,8 @@
 use Rattle.std.specs.Prelude.{ℕ}
 use Rattle.sheet.specs.declared.answers.Outputs.{Outputs}
 use Rattle.case_slices.specs.declared.Slice.{Slice}
-use Rattle.case_slices.specs.declared.Slice.TheVariants.{Starts, Columns, Entries, RightSides, Scales, Integer, Mins, Maxs, LowTolerances, HighTolerances, Basic, Places, Values, WidenedVars, WidenedUps, RhoHi, RhoLo, Second}
+use Rattle.case_slices.specs.declared.Slice.TheVariants.{Starts, Columns, Entries, RightSides, Scales, Integer, Mins, Maxs, LowTolerances, HighTolerances}
+use Rattle.case_slices.specs.declared.Slice.TheVariants.{Basic, Places, Values, WidenedVars, WidenedUps, RhoHi, RhoLo, Second}
 
 -- a slice's number in a table
 abbrev pub number_of : Slice → ℕ
