@@ -1,5 +1,6 @@
 -- Lines that a closure ran, and one more. Assumes nothing.
-use Rattle.std.proofs.Common.{◌≡◌, refl, sym, List, [], ◌∷◌, ◌++◌, ℕ, ◌+◌, ◌<◌, ◌≤◌, length, length-append, Ok, Result, Bor, ◌∙◌, ap, Option, take, drop, append-nil, append_assoc, take-append-drop, arith}
+use Rattle.std.proofs.Common.{◌≡◌, refl, sym, List, [], ◌∷◌, ◌++◌, ℕ, ◌+◌, ◌<◌, ◌≤◌, length, Ok, Result, Bor, ◌∙◌, ap, Option, take, drop, arith}
+use Rattle.std.proofs.Common.{length-append, append-nil, append_assoc, take-append-drop}
 use Rattle.std.proofs.Math.ListN.{length-drop, drop_of_length-le}
 use Rattle.std.proofs.KnownBytes.{Consumes-nil, Consumes-trans}
 use Rattle.std.proofs.lemmas.Fn.{FoldsTo-push, called_at}
