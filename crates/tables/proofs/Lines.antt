@@ -1,5 +1,6 @@
 -- Lines that a closure ran, and one more. Assumes nothing.
-use Rattle.std.proofs.Common.{◌≡◌, refl, sym, List, [], ◌∷◌, ◌++◌, ℕ, ◌+◌, ◌<◌, ◌≤◌, length, length-append, Ok, Result, Bor, ◌∙◌, ap, Option, take, drop, append-nil, append_assoc, take-append-drop, arith}
+use Rattle.std.proofs.Common.{◌≡◌, refl, sym, List, [], ◌∷◌, ◌++◌, ℕ, ◌+◌, ◌<◌, ◌≤◌, length, Ok, Result, Bor, ◌∙◌, ap, Option, take, drop, arith}
+use Rattle.std.proofs.Common.{length-append, append-nil, append_assoc, take-append-drop}
 use Rattle.std.proofs.Math.ListN.{length-drop, drop_of_length-le}
 use Rattle.std.proofs.KnownBytes.{Consumes-nil, Consumes-trans}
 use Rattle.std.proofs.lemmas.Fn.{FoldsTo-push, called_at}
@@ -20,9 +21,9 @@ module _ {F E : Type 0} (calls : Mut F (Bor (List ℕ) × Unit {0}) (Result (Uni
       (record { lines = []; taken = []; rest = []; all = refl; long = λ k d h. absurd (omega (arith, h)); source = Consumes-nil input; bytes = refl; short = λ h. h; ran = refl }, refl)
 
   module _ (count : ℕ) (before mid after : Option (List ℕ)) (first last : F) (so_far : RunsWhole count before mid first last) where
-    pub line_more : (next : F) (line : Bor (List ℕ)) (r : Result (Unit {0}) E) (n : ℕ) → Consumes mid after (take n line.now) → length line.now ≡ size → 0 < n
-        → Called calls last (line, tt) r next → r ≡ Ok tt → (more : RunsLines calls size (count + 1) before after first next) × (more.rest ≡ drop n line.now)
-    line_more next line r n came long some called well =
+    pub line_more : (next : F) (line : Bor (List ℕ)) (r : Result (Unit {0}) E) → Called calls last (line, tt) r next → r ≡ Ok tt
+        → (n : ℕ) → Consumes mid after (take n line.now) → length line.now ≡ size → 0 < n → (more : RunsLines calls size (count + 1) before after first next) × (more.rest ≡ drop n line.now)
+    line_more next line r called well n came long some =
         let old = so_far.0 in
         let front = take n line.now in
         let joined : concat old.lines ≡ old.taken = old.bytes ∙ ap (λ l. old.taken ++ l) so_far.1 ∙ append-nil old.taken in (
@@ -43,8 +44,8 @@ module _ {F E : Type 0} (calls : Mut F (Bor (List ℕ) × Unit {0}) (Result (Uni
         )
 
     -- where the line is whole the next may come
-    pub line_whole : (next : F) (line : Bor (List ℕ)) (r : Result (Unit {0}) E) (n : ℕ) → Consumes mid after (take n line.now) → length line.now ≡ size → 0 < n → size ≤ n
-        → Called calls last (line, tt) r next → r ≡ Ok tt → RunsWhole (count + 1) before after first next
-    line_whole next line r n came long some all called well =
-        let more = line_more next line r n came long some called well in
+    pub line_whole : (next : F) (line : Bor (List ℕ)) (r : Result (Unit {0}) E) → Called calls last (line, tt) r next → r ≡ Ok tt
+        → (n : ℕ) → Consumes mid after (take n line.now) → length line.now ≡ size → 0 < n → size ≤ n → RunsWhole (count + 1) before after first next
+    line_whole next line r called well n came long some all =
+        let more = line_more next line r called well n came long some in
         (more.0, more.1 ∙ drop_of_length-le line.now {i = n} (omega (arith, long, all)))

@@ -8,8 +8,8 @@ loop-done-init g c = (search rules, no_line _ _ _ _)
 
 pub returns-then-n-clause-ran : goal.returns-then-n-clause-ran
 returns-then-n-clause-ran g c =
-    (line_more _ _ _ _ _ _ _ _ c.loop-done.invariant.1 _ _ _ c.in_ok-n.n c.in_ok-n.ensures.bytes (search rules) (search rules) c.run.ensures (search rules)).0
+    (line_more _ _ _ _ _ _ _ _ c.loop-done.invariant.1 _ _ _ c.run.ensures (search rules) c.in_ok-n.n c.in_ok-n.ensures.bytes (search rules) (search rules)).0
 
 pub loop-done-preserved : goal.loop-done-preserved
 loop-done-preserved g c =
-    (search (of_calls), line_whole _ _ _ _ _ _ _ _ c.loop-done.invariant.1 _ _ _ c.in_ok-n.n c.in_ok-n.ensures.bytes (search rules) (search rules) (search rules) c.run.ensures (search rules))
+    (search (of_calls), line_whole _ _ _ _ _ _ _ _ c.loop-done.invariant.1 _ _ _ c.run.ensures (search rules) c.in_ok-n.n c.in_ok-n.ensures.bytes (search rules) (search rules) (search rules))
