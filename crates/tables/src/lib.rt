@@ -1,4 +1,4 @@
-//! What the programs that run a table of cases share: the reading of lines, their numbers, doubles and their patterns, and
+//! What `weigh` and the programs that run a table of cases share: the reading of lines, their numbers, doubles and their patterns, and
 //! tallies of cases.
 
 #![tactic(auto)]
