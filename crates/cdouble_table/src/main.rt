@@ -171,7 +171,7 @@ impl fmt::Display for Operation {
     }
 }
 
-// Kept: both mains share `each_line`, `run_line` and `Report`; one function of the rest takes more parameters than it has lines.
+// Kept: both mains share `each_line`, `run_line` and `Report`; one function of the rest takes the runtime, the operations, a type and two sizes, and with its two calls is no shorter.
 fn main(rt: HostRuntime) -> io::Result<()> {
     let mut tallies = Tallies::<KINDS>::NONE;
     each_line::<LINE, _, _>(

@@ -41,7 +41,7 @@ enum Line {
         place: usize,
         value: usize,
     },
-    // Kept: a number, 0 for none: it is compared with the table's and is the tally's place.
+    // Kept: the table's number, 0 for none: a case's answer is compared with it, and it is the tally's place.
     Expect(usize),
 }
 

@@ -49,6 +49,7 @@ pub fn each_line<const LINE: usize, I: Read, F: FnMut(&[u8]) -> io::Result<()>>(
         RunsLines F.FnMut LINE n (I.remaining input.old) (I.remaining input.new) run.old run.new) }
     ensures end { IfOk result (λ n. 0 < LINE → n < 2 ^ 64 - 1 → IsAtEnd (I.remaining input.new)) }
 {
+    // Kept: nothing says that the input ends and a proved loop has to, so turns are counted; `done` is the answer.
     for done in 0..u64::MAX {
         // Kept: an array of the largest size, since there is no heap and the limits are fixed.
         let mut line = [0u8; LINE];
