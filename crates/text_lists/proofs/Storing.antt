@@ -50,9 +50,6 @@ pub record ChainLeft {P R L : Type 0} (none : P → Bool) (read : P → R) (next
   pub is : stored first (chain none read next (n - first) p₀) l₀ ≡ stored count (chain none read next (n - count) p) l
 
 module _ {P R L : Type 0} {none : P → Bool} {read : P → R} {next : R → P} {stored : ℕ → List R → L → L} {n first : ℕ} {p₀ : P} {l₀ : L} where
-  pub chain_left_start : ChainLeft none read next stored n first p₀ l₀ first p₀ l₀
-  chain_left_start = record { is = refl }
-
   pub chain_left_turn : {store : ℕ → R → L → L} → Stores store stored → {count : ℕ} {p : P} {l m : L} {r : R} → count < n → none p ≡ false → r ≡ read p → m ≡ store count r l
       → ChainLeft none read next stored n first p₀ l₀ count p l → ChainLeft none read next stored n first p₀ l₀ (count + 1) (next r) m
   unfolding chain

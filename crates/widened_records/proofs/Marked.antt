@@ -205,10 +205,6 @@ module _ (count : ℕ) (list : List Widened) (few : count ≤ most_structurals +
   unfolding Outcome
   marks_say e = (subst (Outcome count (variables_of list) (ups_of list)) e (found_says count few list)).each
 
-  pub marks_long : {marks : List Bool} → found_in count list ≡ Some marks → length marks ≡ 2 * (most_structurals + most_rows)
-  unfolding Outcome
-  marks_long e = (subst (Outcome count (variables_of list) (ups_of list)) e (found_says count few list)).long
-
   pub some_says : is_some (found_in count list) ≡ widened_fine count (variables_of list) (ups_of list)
   unfolding Outcome
   some_says = go (found_in count list) (found_says count few list)
