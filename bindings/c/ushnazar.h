@@ -89,8 +89,8 @@ struct ushnazar_verdict {
     size_t multipliers_zeroed;
     /* How many rows the certificate combines. */
     size_t rows;
-    /* The gap again, every step rounded so that it comes out too low and never too high; or -infinity. Above 0 it rules
-       out every point in the widened ranges. */
+    /* The gap over the widened ranges, every step rounded so that it is never too high; or -infinity. Above 0 it rules out
+       every point in these ranges. */
     double outward;
     /* `holds`, and the outward gap is above 0: the order may be declined. */
     bool declined;

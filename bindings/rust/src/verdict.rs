@@ -26,8 +26,8 @@ pub struct Verdict<C> {
     pub multipliers_zeroed: usize,
     /// How many rows the certificate combines.
     pub rows: usize,
-    /// The gap again, with every step rounded so that it comes out too low and never too high; or −infinity. Where it
-    /// is above 0 no point in the widened ranges meets every row exactly.
+    /// The gap over the widened ranges, with every step rounded so that it is never too high; or −infinity. Where it is
+    /// above 0 no point in these ranges meets every row exactly.
     pub outward: f64,
     /// Whether the order may be declined: `holds`, and `outward` is above 0.
     pub declined: bool,
