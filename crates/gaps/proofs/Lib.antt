@@ -1,4 +1,7 @@
 pub mod Example
+pub mod SamenessExample
+pub mod PointExample
+pub mod SheetExample
 pub mod Sound
 pub mod Accepted
 pub mod Term
