@@ -12,8 +12,12 @@ ghost use Rattle.cdouble.specs.Exactness.{abs_ℤ, AtMost, IsExact, IsSplit, IsT
 use double_bits::{next_down, next_up};
 
 mod allowance;
+mod lent;
+mod upward;
 
 pub use allowance::compensated_error;
+pub use lent::{cdouble_add, cdouble_add_scaled};
+pub use upward::{add_up, distance_up, mul_up};
 
 /// The sum `hi + lo`, not evaluated.
 #[repr(C)]

@@ -7,10 +7,9 @@
 // and answers that an operation does not have are 0. A line of any other form counts as one that differs.
 #![tactic(auto)]
 
-use cdouble::{CDouble, compensated_error};
+use cdouble::{CDouble, add_up, compensated_error, distance_up, mul_up};
 use std::{fmt, io};
 use tables::{Report, Tabled, Tallies, bits_of, double_of, each_line, numbers};
-use upward_rounding::{add_up, distance_up, mul_up};
 
 // Bytes in a line, its end included.
 const LINE: usize = 121;

@@ -5,12 +5,12 @@ use mathlib.Core.List.{List}
 use Prim.Native.Nat.{ℕ, zero, suc, ◌+◌, ◌-◌, ◌≤◌}
 use lib.ListN.{length, get_or, length-take, length-drop}
 use lib.Ieee.{Float}
-use Rattle.row_questions.specs.Rows.{part}
+use Rattle.questions.specs.Rows.{part}
 use Rattle.certificate.specs.System.{System, multiplier_at, right_side_at, row_columns, row_entries}
-use Rattle.added_row.specs.Added.{Lists}
+use Rattle.certificate.specs.Added.{Lists}
 use Rattle.certificate.specs.Certificate.{Certificate, with_row, after_rows}
 use Rattle.certificate.specs.Reads.{Lent, RowReadable, Counted}
-use Rattle.added_row.proofs.Lengths.{Same, same, then, kept_same, spread_same, long_same, kept_few, summed_grown}
+use Rattle.certificate.proofs.AddedLengths.{Same, same, then, kept_same, spread_same, long_same, kept_few, summed_grown}
 
 pub after_rows_same : (m : System) (n : ℕ) (c : Certificate) → Same c.lists_of (after_rows m n c).lists_of × (length (after_rows m n c).errors ≡ length c.errors)
 unfolding after_rows with_row

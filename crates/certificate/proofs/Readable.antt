@@ -10,15 +10,15 @@ use lib.Dec.{eqb, leb, ltb}
 use lib.ListN.{length, get_or}
 use Rattle.exact.proofs.Naturals.{le_or_lt}
 use Rattle.questions.specs.Places.{all_below}
-use Rattle.row_questions.specs.Rows.{RowsLie, slack_of}
-use Rattle.row_questions.specs.Questions.{column_fine_at, row_columns_fine, row_columns_fine_at, columns_fine}
+use Rattle.questions.specs.Rows.{RowsLie, slack_of}
+use Rattle.questions.specs.RowQuestions.{column_fine_at, row_columns_fine, row_columns_fine_at, columns_fine}
 use Rattle.questions.proofs.All.{each, all_at, and_left}
 use Rattle.sheet.specs.Sheet.{Sheet, variables}
-use Rattle.sheet_answers.specs.Answers.{Accepted}
-use Rattle.sheet_answers.proofs.Accepted.{AllYes, all_yes, rows_lie}
-use Rattle.sheet_answers.proofs.Consequences.{by_row, by_variable}
+use Rattle.sheet.specs.Answers.{Accepted}
+use Rattle.sheet.proofs.Accepted.{AllYes, all_yes, rows_lie}
+use Rattle.sheet.proofs.Consequences.{by_row, by_variable}
 use Rattle.certificate.specs.System.{System, system, system_of, row_columns}
-use Rattle.added_row.specs.Reads.{Within}
+use Rattle.certificate.specs.AddedReads.{Within}
 use Rattle.certificate.specs.Reads.{RowReadable}
 
 -- ---- 5: a row's columns are variables

@@ -5,16 +5,16 @@ use mathlib.Core.List.{List}
 use Prim.Native.Nat.{ℕ, zero, suc, ◌+◌, ◌-◌, ◌<◌, ◌≤◌, ◌^◌}
 use lib.ListN.{length, get_or}
 use lib.Ieee.{Float}
-use Rattle.added_row.specs.declared.adding.Sums.{Sums}
+use Rattle.certificate.specs.declared.adding.Sums.{Sums}
 use Rattle.multipliers.specs.declared.weighing.Multiplier.{Multiplier}
 use Rattle.std.proofs.Common.{Option}
 use Rattle.multipliers.specs.Multipliers.{spreads}
 use Rattle.certificate.specs.System.{System, error_at, multiplier_at, right_side_at, row_columns, row_entries}
-use Rattle.added_row.specs.Added.{Lists, kept_into, spread_into, no_sums, summed}
+use Rattle.certificate.specs.Added.{Lists, kept_into, spread_into, no_sums, summed}
 use Rattle.certificate.specs.Certificate.{Certificate, certificate, with_row, after_rows}
-use Rattle.added_row.specs.Reads.{RowFits, ErrorsFit}
+use Rattle.certificate.specs.AddedReads.{RowFits, ErrorsFit}
 use Rattle.certificate.specs.Reads.{Counted, RowGoesOn, RowsGoOn}
-use Rattle.added_row.proofs.Lengths.{Same}
+use Rattle.certificate.proofs.AddedLengths.{Same}
 use Rattle.certificate.proofs.Lengths.{after_rows_same, lent_same, part-long, row_counted}
 use Rattle.exact.proofs.Turns.{Turn, first, next}
 

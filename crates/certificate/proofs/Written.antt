@@ -11,17 +11,17 @@ use Rattle.doubles.specs.Compare.{absolute}
 use Rattle.cdouble.specs.declared.CDouble.{CDouble}
 use Rattle.cdouble.specs.Compensated.{◌⊕◌, ◌⊗◌, plus_scaled, plus_zero, value}
 use Rattle.questions.specs.Flags.{is_set}
-use Rattle.row_questions.specs.Rows.{slack_of}
+use Rattle.questions.specs.Rows.{slack_of}
 use Rattle.multipliers.specs.declared.weighing.Multiplier.{Multiplier}
 use Rattle.multipliers.specs.declared.weighing.Multiplier.TheVariants.{Zeroed, Dropped, Kept}
 use Rattle.std.proofs.Common.{Option, Some, None}
 use Rattle.multipliers.specs.Multipliers.{needs_infinite_side, spreads, weighed}
 use Rattle.certificate.specs.System.{System, error_at, signed_at, multiplier_at, right_side_at, row_columns, row_entries}
-use Rattle.added_row.specs.Added.{Lists, lists, pair_at, with_term, after_terms, kept_into, with_error, after_errors, spread_into, no_sums, summed}
+use Rattle.certificate.specs.Added.{Lists, lists, pair_at, with_term, after_terms, kept_into, with_error, after_errors, spread_into, no_sums, summed}
 use Rattle.certificate.specs.Certificate.{Certificate, certificate, with_row, after_rows, empty, combined, over, lists_over, written}
-use Rattle.added_row.specs.Reads.{Long, Within}
+use Rattle.certificate.specs.AddedReads.{Long, Within}
 use Rattle.certificate.specs.Reads.{RowsGoOn, CertificateFits}
-use Rattle.added_row.proofs.Lengths.{Same, after_terms_same, after_errors_same, long_same}
+use Rattle.certificate.proofs.AddedLengths.{Same, after_terms_same, after_errors_same, long_same}
 use Rattle.certificate.proofs.Lengths.{after_rows_same, lent_same}
 
 -- ---- lists with more places beyond

@@ -2,10 +2,10 @@
 -- Assumes nothing.
 use Rattle.std.specs.Prelude.{Bool, cond, List, ◌++◌, ℕ, zero, suc, length, replicate, drop, Float}
 use Rattle.cdouble.specs.Compensated.{plus_zero}
-use Rattle.added_row.specs.declared.adding.Sums.{Sums}
+use Rattle.certificate.specs.declared.adding.Sums.{Sums}
 use Rattle.multipliers.specs.Multipliers.{spreads}
 use Rattle.certificate.specs.System.{System, error_at, multiplier_at, right_side_at, row_columns, row_entries}
-use Rattle.added_row.specs.Added.{Lists, lists, kept_into, spread_into, no_sums, summed}
+use Rattle.certificate.specs.Added.{Lists, lists, kept_into, spread_into, no_sums, summed}
 
 -- ---- all of it
 pub record Certificate : Type 0 where

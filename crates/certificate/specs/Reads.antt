@@ -1,9 +1,9 @@
 -- What the code asks of the lent slices. On an accepted sheet it holds. Assumes nothing.
 use Rattle.std.specs.Prelude.{◌≡◌, List, ℕ, ◌+◌, ◌≤◌, ◌<◌, ◌^◌, length, get_or, Float}
 use Rattle.certificate.specs.System.{System, row_columns}
-use Rattle.added_row.specs.Added.{Lists}
+use Rattle.certificate.specs.Added.{Lists}
 use Rattle.certificate.specs.Certificate.{Certificate}
-use Rattle.added_row.specs.Reads.{Long, Within}
+use Rattle.certificate.specs.AddedReads.{Long, Within}
 
 -- the lists and the errors have a place for each of count variables
 pub record Lent (count : ℕ) (l : Lists) (errors : List Float) : Type 0 where

@@ -4,11 +4,11 @@ use Rattle.std.specs.Float.{nan}
 use Rattle.doubles.specs.Compare.{absolute}
 use Rattle.cdouble.specs.declared.CDouble.{CDouble}
 use Rattle.questions.specs.Flags.{is_set}
-use Rattle.row_questions.specs.Rows.{part, slack_of}
+use Rattle.questions.specs.Rows.{part, slack_of}
 use Rattle.sheet.specs.declared.lent.Sheet.{Sheet as Slices}
 use Rattle.sheet.specs.Sheet.{Sheet}
 use Rattle.multipliers.specs.declared.weighing.Multiplier.{Multiplier}
-use Rattle.refinement_error.specs.Refinement.{error_bounds, rho_at}
+use Rattle.multipliers.specs.Refinement.{error_bounds, rho_at}
 use Rattle.multipliers.specs.Multipliers.{signed, weighed}
 
 pub record System : Type 0 where

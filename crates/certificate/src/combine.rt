@@ -1,17 +1,16 @@
 //! The rows added up, each times its multiplier, into a coefficient for each variable.
 ghost use Rattle.std.specs.Prelude.{◌≡◌, cond, length, replicate, ◌≤◌};
 ghost use Rattle.cdouble.specs.Compensated.{plus_zero};
-ghost use Rattle.added_row.specs.Added.{no_sums};
-ghost use Rattle.added_row.specs.Lent.{SameSlices, lent_lists};
-ghost use Rattle.added_row.specs.Reads.{Long};
+ghost use Rattle.certificate.specs.Added.{no_sums};
+ghost use Rattle.certificate.specs.Lent.{SameSlices, lent_lists};
+ghost use Rattle.certificate.specs.AddedReads.{Long};
 ghost use Rattle.certificate.specs.System.{lent_system};
 ghost use Rattle.certificate.specs.Certificate.{after_rows, certificate, combined, empty, lists_over, over, with_row, written};
 ghost use Rattle.certificate.specs.Reads.{CertificateFits, RowGoesOn, RowsGoOn};
 
-use added_row::{Lists, Sums, spread_row, summed};
+use crate::{Lists, Sums, keep_row, spread_row, summed};
 use cdouble::CDouble;
 use double_bits::abs;
-use kept_terms::keep_row;
 use multipliers::{multiplier_at, spreads};
 use sheet::Sheet;
 

@@ -2,6 +2,12 @@
 
 #![tactic(auto)]
 
+mod adding;
 mod combine;
+mod kept_terms;
+mod lent;
 
+pub use adding::{Sums, spread_row, summed};
 pub use combine::certificate;
+pub use kept_terms::keep_row;
+pub use lent::Lists;

@@ -6,7 +6,7 @@ ghost use Rattle.cdouble.specs.Compensated.{lower, upper};
 ghost use Rattle.directed.specs.Far.{Clear, past};
 
 use cdouble::CDouble;
-use ranked_doubles::SIGN;
+use double_bits::SIGN;
 
 /// Whether a rest lies above 0 (`UP`), or below it.
 fn past<const UP: bool>(rest: f64) -> bool

@@ -7,7 +7,7 @@ ghost use Rattle.std.specs.Float.Ieee.{to_bits, is_nan, lt};
 ghost use Rattle.std.specs.Float.Ieee.Scale.{finite};
 ghost use Rattle.doubles.specs.Compare.{absolute, larger, smaller};
 
-use ranked_doubles::{INFINITY, SIGN, positive};
+use crate::{INFINITY, SIGN, positive};
 use std::num::f64_to_bits_with_nan;
 
 /// The absolute value of `x`.

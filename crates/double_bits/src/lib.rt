@@ -5,6 +5,8 @@
 
 mod bits;
 mod neighbours;
+mod ranked;
 
 pub use bits::{abs, is_finite, max, min};
 pub use neighbours::{next_down, next_up};
+pub use ranked::{INFINITY, SIGN, negative, positive};

@@ -2,7 +2,7 @@
 ghost use Rattle.std.specs.Prelude.{◌≡◌};
 ghost use Rattle.doubles.specs.Neighbours.{next_down, next_up};
 
-use ranked_doubles::{INFINITY, SIGN, negative, positive};
+use crate::{INFINITY, SIGN, negative, positive};
 
 /// The least double above `x`. A NaN and +infinity stay; past the largest double it is +infinity.
 pub fn next_up(x: f64) -> f64

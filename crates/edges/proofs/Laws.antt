@@ -23,22 +23,22 @@ use Rattle.doubles.proofs.Clear.{absolute-fits, absolute_clear}
 use Rattle.cdouble.specs.Compensated.{◌⊕◌, ◌⊖◌, ◌⊗◌, plus_zero}
 use Rattle.cdouble.proofs.RoundedUp.{exact-zero, zero-fits}
 use Rattle.sheet.specs.Sheet.{Sheet, variables, Doubles}
-use Rattle.row_questions.specs.Rows.{part, RowsLie}
-use Rattle.place_questions.specs.Places.{holds_place}
-use Rattle.sheet_answers.specs.Answers.{Accepted}
-use Rattle.sheet_answers.proofs.Accepted.{AllYes, all_yes, rows_lie}
-use Rattle.sheet_answers.proofs.Consequences.{Plain, lengths, by_variable, by_row, range_at_lem, low_plain, high_plain, feasibility_plain, scale_plain, product_finite, Holds, holder, one_holder, leaving_lt}
+use Rattle.questions.specs.Rows.{part, RowsLie}
+use Rattle.questions.specs.BasisPlaces.{holds_place}
+use Rattle.sheet.specs.Answers.{Accepted}
+use Rattle.sheet.proofs.Accepted.{AllYes, all_yes, rows_lie}
+use Rattle.sheet.proofs.Consequences.{Plain, lengths, by_variable, by_row, range_at_lem, low_plain, high_plain, feasibility_plain, scale_plain, product_finite, Holds, holder, one_holder, leaving_lt}
 use Rattle.tolerances.specs.Tolerances.{toward, slack_margin, slack_tol}
-use Rattle.tolerance_band.specs.BandEdge.{band_edge}
+use Rattle.tolerances.specs.BandEdge.{band_edge}
 use Rattle.tolerances.proofs.Room.{trimmed_room-fits, trimmed_room_law, no_minus_zero}
-use Rattle.tolerance_band.proofs.BandEdge.{band_edge_law, band_edge-fits}
-use Rattle.row_values.specs.declared.activity.Activity.{Activity}
-use Rattle.variable_bounds.specs.Model.{model_of, bound_of, tols_of}
-use Rattle.row_values.specs.Activity.{activity, with_entry, after_entries, row_activity, row_terms, slack_room}
-use Rattle.widening_rooms.specs.Rooms.{slack_room_at, widening_room}
+use Rattle.tolerances.proofs.BandEdge.{band_edge_law, band_edge-fits}
+use Rattle.edges.specs.declared.activity.Activity.{Activity}
+use Rattle.edges.specs.Model.{model_of, bound_of, tols_of}
+use Rattle.edges.specs.Activity.{activity, with_entry, after_entries, row_activity, row_terms, slack_room}
+use Rattle.edges.specs.Rooms.{slack_room_at, widening_room}
 use Rattle.edges.specs.Edges.{leaving_variable, edge, low_edge, high_edge}
-use Rattle.variable_kinds.specs.Variables.{is_widened, holds_on_bounds, holder_from}
-use Rattle.widening_rooms.specs.Reads.{RowReadable, Readable}
+use Rattle.edges.specs.Variables.{is_widened, holds_on_bounds, holder_from}
+use Rattle.edges.specs.RoomReads.{RowReadable, Readable}
 
 -- ---- what is to hold of an edge, whichever way it is chosen
 pub record EdgeHolds (bound : Float) (up : Bool) (e : Float) : Type 0 where

@@ -7,11 +7,11 @@ use lib.Ieee.{Float}
 use lib.Ieee.Scale.{finite}
 use Rattle.cdouble.proofs.Contracts.{when_true, when_false}
 use Rattle.tolerances.specs.Tolerances.{toward}
-use Rattle.tolerance_band.specs.BandEdge.{band_edge}
-use Rattle.variable_bounds.specs.Model.{Model, bound_of, tols_of}
-use Rattle.widening_rooms.specs.Rooms.{widening_room}
+use Rattle.tolerances.specs.BandEdge.{band_edge}
+use Rattle.edges.specs.Model.{Model, bound_of, tols_of}
+use Rattle.edges.specs.Rooms.{widening_room}
 use Rattle.edges.specs.Edges.{edge}
-use Rattle.variable_kinds.specs.Variables.{holds_on_bounds}
+use Rattle.edges.specs.Variables.{holds_on_bounds}
 
 -- ---- `edge`, from what its calls gave
 module _ (m : Model) (leaving v : ℕ) (up : Bool) {bound : Float} {f : Bool} (at : bound ≡ bound_of m v up) (is : f ≡ finite bound) where

@@ -3,10 +3,10 @@ use Rattle.std.specs.Prelude.{Bool, true, false, cond, ℕ, eqb, length, Float}
 use Rattle.std.specs.Float.Ieee.Scale.{finite}
 use Rattle.sheet.specs.Sheet.{Sheet}
 use Rattle.tolerances.specs.Tolerances.{toward}
-use Rattle.tolerance_band.specs.BandEdge.{band_edge}
-use Rattle.variable_bounds.specs.Model.{Model, model_of, bound_of, tols_of}
-use Rattle.variable_kinds.specs.Variables.{holds_on_bounds, holder_from}
-use Rattle.widening_rooms.specs.Rooms.{widening_room}
+use Rattle.tolerances.specs.BandEdge.{band_edge}
+use Rattle.edges.specs.Model.{Model, model_of, bound_of, tols_of}
+use Rattle.edges.specs.Variables.{holds_on_bounds, holder_from}
+use Rattle.edges.specs.Rooms.{widening_room}
 
 -- "The leaving variable is the one whose basis place has the leaving row's number"
 abbrev pub leaving_variable : Sheet → ℕ

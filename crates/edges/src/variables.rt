@@ -1,15 +1,13 @@
 //! The edges of a variable.
 ghost use Rattle.std.specs.Prelude.{◌≡◌};
-ghost use Rattle.variable_bounds.specs.Model.{lent_model};
+ghost use Rattle.edges.specs.Model.{lent_model};
 ghost use Rattle.edges.specs.Edges.{edge};
-ghost use Rattle.widening_rooms.specs.Reads.{Readable};
+ghost use Rattle.edges.specs.RoomReads.{Readable};
 
+use crate::{bound_of, holds_on_bounds, tolerance_of, widening_room};
 use double_bits::is_finite;
 use sheet::Sheet;
-use tolerance_band::band_edge;
-use variable_bounds::{bound_of, tolerance_of};
-use variable_kinds::holds_on_bounds;
-use widening_rooms::widening_room;
+use tolerances::band_edge;
 
 /// The edge of `v` on this side.
 pub fn edge(s: &Sheet, leaving: usize, v: usize, up: bool) -> f64

@@ -10,14 +10,14 @@ use lib.Seq.{get_or-take, get_or-drop}
 use lib.Ieee.{Float, nan, inf, fin, le, lt, eq}
 use lib.Ieee.Scale.{finite}
 use Rattle.questions.specs.Places.{all_below}
-use Rattle.row_questions.specs.Rows.{part}
+use Rattle.questions.specs.Rows.{part}
 use Rattle.questions.specs.Questions.{all_finite}
-use Rattle.row_questions.specs.Questions.{slack_entry_fine_at, entries_fine}
+use Rattle.questions.specs.RowQuestions.{slack_entry_fine_at, entries_fine}
 use Rattle.questions.proofs.All.{each}
 use Rattle.sheet.specs.Sheet.{Sheet, variables, Doubles}
-use Rattle.sheet_answers.specs.Answers.{Accepted}
-use Rattle.sheet_answers.proofs.Accepted.{AllYes, all_yes}
-use Rattle.sheet_answers.proofs.Consequences.{by_row, finite_at_lem, right_side-finite, range_at_lem}
+use Rattle.sheet.specs.Answers.{Accepted}
+use Rattle.sheet.proofs.Accepted.{AllYes, all_yes}
+use Rattle.sheet.proofs.Consequences.{by_row, finite_at_lem, right_side-finite, range_at_lem}
 use Rattle.edges.specs.Edges.{leaving_variable}
 use Rattle.edges.proofs.Laws.{edge-fits, edge_outer, edge_no_nan, low_le_high}
 use Rattle.certificate.specs.System.{system_of, row_columns, row_entries}

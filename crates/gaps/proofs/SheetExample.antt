@@ -12,18 +12,18 @@ use Rattle.doubles.specs.Directed.{round_up, round_down, sum_with, product_with}
 use Rattle.doubles.specs.Compare.{absolute, larger}
 use Rattle.cdouble.specs.Compensated.{pair, two_sum, normalized, value}
 use Rattle.tolerances.specs.Tolerances.{toward}
-use Rattle.tolerance_band.specs.BandEdge.{band_start, too_far, turns, band_edge}
+use Rattle.tolerances.specs.BandEdge.{band_start, too_far, turns, band_edge}
 use Rattle.questions.specs.Places.{all_below}
 use Rattle.questions.specs.Questions.{sizes_fine, all_finite, range_fine, bounds_fine, plain, all_plain, tolerances_fine, leaving_row_fine}
-use Rattle.row_questions.specs.Rows.{part}
-use Rattle.row_questions.specs.Questions.{starts_fine, row_columns_fine, columns_fine, slack_entry_fine, entries_fine}
-use Rattle.place_questions.specs.Places.{holders, widened_among}
-use Rattle.place_questions.specs.Questions.{basis_fine, widened_fine}
+use Rattle.questions.specs.Rows.{part}
+use Rattle.questions.specs.RowQuestions.{starts_fine, row_columns_fine, columns_fine, slack_entry_fine, entries_fine}
+use Rattle.questions.specs.BasisPlaces.{holders, widened_among}
+use Rattle.questions.specs.PlaceQuestions.{basis_fine, widened_fine}
 use Rattle.sheet.specs.Sheet.{Sheet, sheet}
 use Rattle.sheet.specs.Lengths.{rows_fit, variables_fit, outputs_fit, lengths_fit}
-use Rattle.sheet_answers.specs.Answers.{ask, first_no, Accepted}
-use Rattle.variable_kinds.specs.Variables.{holds_on_bounds, holder_from}
-use Rattle.widening_rooms.specs.Rooms.{widening_room}
+use Rattle.sheet.specs.Answers.{ask, first_no, Accepted}
+use Rattle.edges.specs.Variables.{holds_on_bounds, holder_from}
+use Rattle.edges.specs.Rooms.{widening_room}
 use Rattle.edges.specs.Edges.{edge}
 use Rattle.multipliers.specs.declared.weighing.Multiplier.TheVariants.{Kept}
 use Rattle.multipliers.specs.Multipliers.{signed, weighed}

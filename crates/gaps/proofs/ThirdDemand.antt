@@ -2,7 +2,7 @@
 use mathlib.Core.Path.{subst}
 use Prim.Native.Nat.{ℕ}
 use Rattle.sheet.specs.Sheet.{Sheet, variables, Doubles}
-use Rattle.sheet_answers.specs.Answers.{Accepted}
+use Rattle.sheet.specs.Answers.{Accepted}
 use Rattle.gaps.specs.Rows.{KeptRows, rows_of, ranges_of}
 use Rattle.gaps.specs.Sameness.{SameRows, SameKept, Within}
 use Rattle.gaps.specs.ThirdDemand.{LargestIsOne, MissesAtLeast, NeverAbove, RulesOut, NotLowered}

@@ -2,7 +2,7 @@
 use Rattle.std.specs.Prelude.{Bool, true, false, ◌&&◌, List, ℕ, Float}
 use Rattle.std.specs.Float.Ieee.Scale.{finite}
 use Rattle.sheet.specs.Sheet.{Sheet, variables}
-use Rattle.variable_bounds.specs.Model.{Model, model_of}
+use Rattle.edges.specs.Model.{Model, model_of}
 use Rattle.edges.specs.Edges.{edge, leaving_variable}
 use Rattle.multipliers.specs.declared.weighing.Multiplier.{Multiplier}
 use Rattle.multipliers.specs.declared.weighing.Multiplier.TheVariants.{Zeroed, Dropped, Kept}

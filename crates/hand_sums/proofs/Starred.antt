@@ -9,7 +9,7 @@ use Rattle.doubles.specs.Directed.{product_with, round_up, round_down}
 use Rattle.doubles.specs.Neighbours.{next_up, next_down}
 use Rattle.doubles.specs.Compare.{absolute, larger}
 use Rattle.cdouble.specs.Compensated.{two_sum, split, product_error, two_product, upper, add_up, mul_up, compensated_error}
-use Rattle.tolerance_band.specs.BandEdge.{band_start, too_far, step_back, turns, band_edge}
+use Rattle.tolerances.specs.BandEdge.{band_start, too_far, step_back, turns, band_edge}
 use Rattle.hand_sums.specs.Starred.{Example, starred}
 
 pub starred_hold : map (λ (e : Example). to_bits binary64 e.given) starred ≡ map (λ (e : Example). e.bits) starred

@@ -4,7 +4,7 @@ use Rattle.std.specs.Float.{fin, binary64}
 use Rattle.std.specs.Float.Ieee.{of_bits}
 use Rattle.doubles.specs.Directed.{product_up, product_down}
 use Rattle.cdouble.specs.Compensated.{two_sum, two_product, add_up, mul_up, compensated_error}
-use Rattle.tolerance_band.specs.BandEdge.{band_edge}
+use Rattle.tolerances.specs.BandEdge.{band_edge}
 
 pub record Example : Type 0 where
   pub given : Float

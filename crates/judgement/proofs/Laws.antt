@@ -7,16 +7,16 @@ use lib.Ieee.Scale.{finite}
 use Rattle.cdouble.specs.declared.CDouble.{CDouble}
 use Rattle.cdouble.specs.Compensated.{add_up, compensated_error, plus_scaled, value}
 use Rattle.cdouble.proofs.Contracts.{differ}
-use Rattle.added_row.specs.declared.adding.Sums.{Sums}
-use Rattle.variable_bounds.specs.Model.{Model}
-use Rattle.walk_states.specs.declared.steps.End.{End}
-use Rattle.walk_states.specs.declared.steps.End.TheVariants.{Through, Spoilt as WalkSpoilt, Unlimited as WalkUnlimited}
-use Rattle.walk_states.specs.declared.steps.Walked.{Walked}
+use Rattle.certificate.specs.declared.adding.Sums.{Sums}
+use Rattle.edges.specs.Model.{Model}
+use Rattle.walk.specs.declared.states.End.{End}
+use Rattle.walk.specs.declared.states.End.TheVariants.{Through, Spoilt as WalkSpoilt, Unlimited as WalkUnlimited}
+use Rattle.walk.specs.declared.states.Walked.{Walked}
 use Rattle.std.proofs.lemmas.Bool.{cond_both}
-use Rattle.weighed_gap.specs.declared.gap.GapSum.{GapSum}
-use Rattle.weighed_gap.specs.declared.gap.GapSum.TheVariants.{Finite, Unlimited, Spoilt}
-use Rattle.slack_cut.specs.Cut.{cut_at}
-use Rattle.weighed_gap.specs.Gap.{finite_sum, gap_of, gap_sum, minus_one, weigh, weighed_plain}
+use Rattle.judgement.specs.declared.weighed.GapSum.{GapSum}
+use Rattle.judgement.specs.declared.weighed.GapSum.TheVariants.{Finite, Unlimited, Spoilt}
+use Rattle.judgement.specs.Cut.{cut_at}
+use Rattle.judgement.specs.Gap.{finite_sum, gap_of, gap_sum, minus_one, weigh, weighed_plain}
 use Rattle.judgement.specs.Judgement.{judged}
 
 -- ---- a gap that is not finite never holds

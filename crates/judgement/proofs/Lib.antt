@@ -1,2 +1,3 @@
 pub mod Laws
 pub mod NoRows
+pub mod CutLaws

@@ -11,23 +11,23 @@ use Rattle.cdouble.specs.declared.CDouble.{CDouble}
 use Rattle.cdouble.specs.Compensated.{add_up, compensated_error, pair, plus, plus_product, plus_scaled, plus_zero, product_error, split, two_product, two_sum, upper, value}
 use Rattle.multipliers.specs.declared.weighing.Multiplier.{Multiplier}
 use Rattle.multipliers.specs.declared.weighing.Multiplier.TheVariants.{Zeroed, Dropped, Kept}
-use Rattle.added_row.specs.declared.adding.Sums.{Sums}
+use Rattle.certificate.specs.declared.adding.Sums.{Sums}
 use Rattle.certificate.specs.System.{System, multiplier_at, right_side_at, row_columns, row_entries}
 use Rattle.certificate.specs.Certificate.{Certificate, after_rows, combined, empty, with_row}
-use Rattle.added_row.specs.Added.{Lists, kept_into, pair_at, summed}
-use Rattle.variable_bounds.specs.Model.{Model}
-use Rattle.walk_states.specs.declared.steps.End.TheVariants.{Through}
-use Rattle.walk_states.specs.declared.steps.Walked.{Walked}
-use Rattle.walk_step.specs.Step.{coefficient_at, step}
+use Rattle.certificate.specs.Added.{Lists, kept_into, pair_at, summed}
+use Rattle.edges.specs.Model.{Model}
+use Rattle.walk.specs.declared.states.End.TheVariants.{Through}
+use Rattle.walk.specs.declared.states.Walked.{Walked}
+use Rattle.walk.specs.Step.{coefficient_at, step}
 use Rattle.walk.specs.Walk.{onward, started, walk_over}
-use Rattle.walk_states.specs.States.{walked}
+use Rattle.walk.specs.States.{walked}
 use Rattle.std.proofs.lemmas.Bool.{cond_both}
 use Rattle.walk.proofs.Laws.{skipped}
-use Rattle.weighed_gap.specs.declared.gap.GapSum.{GapSum}
-use Rattle.weighed_gap.specs.declared.gap.GapSum.TheVariants.{Finite}
-use Rattle.weighed_gap.specs.declared.gap.Weight.{Weight}
-use Rattle.slack_cut.specs.Cut.{cut_at}
-use Rattle.weighed_gap.specs.Gap.{finite_sum, gap_of, gap_sum, weigh, weighed_apart, weighed_plain}
+use Rattle.judgement.specs.declared.weighed.GapSum.{GapSum}
+use Rattle.judgement.specs.declared.weighed.GapSum.TheVariants.{Finite}
+use Rattle.judgement.specs.declared.weighed.Weight.{Weight}
+use Rattle.judgement.specs.Cut.{cut_at}
+use Rattle.judgement.specs.Gap.{finite_sum, gap_of, gap_sum, weigh, weighed_apart, weighed_plain}
 use Rattle.judgement.specs.Judgement.{judged, judgement}
 
 -- ---- where no row was kept

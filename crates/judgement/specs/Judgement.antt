@@ -1,14 +1,14 @@
 -- The judgement: document 01, "The judgement". Assumes nothing.
 use Rattle.std.specs.Prelude.{Bool, ℕ}
 use Rattle.cdouble.specs.Compensated.{add_up, compensated_error}
-use Rattle.added_row.specs.declared.adding.Sums.{Sums}
+use Rattle.certificate.specs.declared.adding.Sums.{Sums}
 use Rattle.certificate.specs.Certificate.{Certificate}
-use Rattle.variable_bounds.specs.Model.{Model}
-use Rattle.walk_states.specs.declared.steps.Walked.{Walked}
+use Rattle.edges.specs.Model.{Model}
+use Rattle.walk.specs.declared.states.Walked.{Walked}
 use Rattle.judgement.specs.declared.gap.Proof.{Proof}
 use Rattle.walk.specs.Walk.{walk_over}
-use Rattle.weighed_gap.specs.Gap.{gap_sum, gap_of, weigh}
-use Rattle.slack_cut.specs.Cut.{cut_at}
+use Rattle.judgement.specs.Gap.{gap_sum, gap_of, weigh}
+use Rattle.judgement.specs.Cut.{cut_at}
 
 -- ---- `judge`, of the walk over all variables
 unfoldable pub judged : Model → ℕ → Sums → Walked → Proof

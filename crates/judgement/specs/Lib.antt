@@ -1,2 +1,5 @@
 pub mod Judgement
 pub mod Reads
+pub mod Gap
+pub mod CutReads
+pub mod Cut

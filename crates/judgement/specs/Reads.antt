@@ -1,10 +1,10 @@
 -- What the code asks of the lent slices. On an accepted sheet it holds. Assumes nothing.
 use Rattle.std.specs.Prelude.{List, ℕ, Float}
-use Rattle.added_row.specs.declared.adding.Sums.{Sums}
-use Rattle.added_row.specs.Added.{Lists}
-use Rattle.variable_bounds.specs.Model.{Model}
+use Rattle.certificate.specs.declared.adding.Sums.{Sums}
+use Rattle.certificate.specs.Added.{Lists}
+use Rattle.edges.specs.Model.{Model}
 use Rattle.walk.specs.Reads.{WalkFits}
-use Rattle.slack_cut.specs.Reads.{LeavingFits}
+use Rattle.judgement.specs.CutReads.{LeavingFits}
 
 -- a judgement over count variables
 pub record JudgeFits (m : Model) (count leaving : ℕ) (l : Lists) (errors : List Float) (c : Sums) : Type 0 where

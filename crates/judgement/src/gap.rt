@@ -1,20 +1,17 @@
 //! The judgement of a walk over the variables, and of a certificate.
 ghost use Rattle.std.specs.Prelude.{◌≡◌};
-ghost use Rattle.variable_bounds.specs.Model.{lent_model};
+ghost use Rattle.edges.specs.Model.{lent_model};
 ghost use Rattle.certificate.specs.Certificate.{certificate};
-ghost use Rattle.added_row.specs.Lent.{lent_lists};
+ghost use Rattle.certificate.specs.Lent.{lent_lists};
 ghost use Rattle.judgement.specs.Judgement.{judged, judgement};
 ghost use Rattle.judgement.specs.Reads.{JudgeFits};
-ghost use Rattle.slack_cut.specs.Reads.{LeavingFits};
+ghost use Rattle.judgement.specs.CutReads.{LeavingFits};
 
-use added_row::{Lists, Sums};
-use cdouble::compensated_error;
+use crate::{cut_at, gap_of, gap_sum, weigh};
+use cdouble::{add_up, compensated_error};
+use certificate::{Lists, Sums};
 use sheet::Sheet;
-use slack_cut::cut_at;
-use upward_rounding::add_up;
-use walk::walk_over;
-use walk_states::Walked;
-use weighed_gap::{gap_of, gap_sum, weigh};
+use walk::{Walked, walk_over};
 
 /// The judgement's numbers, and how many rows the certificate combines.
 #[derive(Clone, Copy)]

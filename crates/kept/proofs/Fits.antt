@@ -11,20 +11,20 @@ use lib.Ieee.{Float}
 use Rattle.cdouble.specs.Compensated.{plus_zero}
 use Rattle.questions.proofs.All.{each}
 use Rattle.sheet.specs.Sheet.{Sheet, variables}
-use Rattle.sheet_answers.specs.Answers.{Accepted}
+use Rattle.sheet.specs.Answers.{Accepted}
 use Rattle.sheet.specs.Lengths.{outputs_fit}
-use Rattle.sheet_answers.proofs.Accepted.{AllYes, all_yes, sizes_hold}
-use Rattle.sheet_answers.proofs.Consequences.{lengths, by_row, by_variable}
-use Rattle.variable_bounds.specs.Model.{model_of}
+use Rattle.sheet.proofs.Accepted.{AllYes, all_yes, sizes_hold}
+use Rattle.sheet.proofs.Consequences.{lengths, by_row, by_variable}
+use Rattle.edges.specs.Model.{model_of}
 use Rattle.edges.specs.Edges.{leaving_variable}
 use Rattle.edges.proofs.Laws.{readable, leaving_holds}
-use Rattle.added_row.specs.Added.{Lists}
+use Rattle.certificate.specs.Added.{Lists}
 use Rattle.certificate.specs.Certificate.{Certificate, empty, combined}
 use Rattle.certificate.specs.Reads.{Lent, RowsGoOn, CertificateFits}
 use Rattle.certificate.proofs.Rows.{rows-counted}
 use Rattle.certificate.proofs.Readable.{lie, rows_with, row_readable}
 use Rattle.judgement.specs.Reads.{JudgeFits}
-use Rattle.added_row.specs.declared.adding.Sums.{Sums}
+use Rattle.certificate.specs.declared.adding.Sums.{Sums}
 use Rattle.sheet.specs.declared.answers.Outputs.{Outputs}
 use Rattle.certificate.proofs.Lengths.{after_rows_same, lent_same}
 use Rattle.kept.specs.Kept.{outputs}

@@ -11,24 +11,24 @@ use Rattle.cdouble.specs.Compensated.{plus_zero}
 use Rattle.cdouble.proofs.Contracts.{when_true, when_false}
 use Rattle.questions.specs.Flags.{is_set}
 use Rattle.sheet.specs.Sheet.{Sheet, variables}
-use Rattle.sheet_answers.specs.Answers.{Accepted, first_no}
-use Rattle.variable_bounds.specs.Model.{Model, model_of}
+use Rattle.sheet.specs.Answers.{Accepted, first_no}
+use Rattle.edges.specs.Model.{Model, model_of}
 use Rattle.edges.specs.Edges.{leaving_variable}
-use Rattle.added_row.specs.declared.adding.Sums.{Sums}
+use Rattle.certificate.specs.declared.adding.Sums.{Sums}
 use Rattle.certificate.specs.System.{System, system_of}
-use Rattle.added_row.specs.Added.{Lists}
+use Rattle.certificate.specs.Added.{Lists}
 use Rattle.certificate.specs.Certificate.{Certificate, certificate, combined, over, written}
 use Rattle.certificate.specs.Reads.{Lent}
 use Rattle.certificate.proofs.Readable.{rows_with}
-use Rattle.walk_states.specs.declared.steps.Coefficient.{Coefficient}
-use Rattle.walk_step.specs.Step.{coefficient_at, step}
+use Rattle.walk.specs.declared.states.Coefficient.{Coefficient}
+use Rattle.walk.specs.Step.{coefficient_at, step}
 use Rattle.walk.specs.Walk.{onward, walk_over}
 use Rattle.judgement.specs.declared.gap.Proof.{Proof}
 use Rattle.judgement.specs.Reads.{JudgeFits}
 use Rattle.judgement.specs.Judgement.{judged, judgement}
-use Rattle.refusal_numbers.specs.declared.Refusal.{Refusal}
-use Rattle.refusal_numbers.specs.Numbers.{number_of}
-use Rattle.refusal_numbers.proofs.Numbers.{not_zero}
+use Rattle.sheet.specs.declared.numbers.Refusal.{Refusal}
+use Rattle.sheet.specs.Numbers.{number_of}
+use Rattle.sheet.proofs.RefusalNumbers.{not_zero}
 use Rattle.kept.specs.Kept.{certificate_of, proof_of, outputs, lent, filled_in, after, Lent as KeptLent}
 use Rattle.kept.proofs.Places.{place_written}
 use Rattle.kept.proofs.Fits.{certificate_fits, combined-lent, judge_fits}

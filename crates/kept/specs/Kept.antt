@@ -5,13 +5,13 @@ use Rattle.sheet.specs.declared.answers.Outputs.{Outputs}
 use Rattle.sheet.specs.declared.lent.Sheet.{Sheet as SheetSlices}
 use Rattle.sheet.specs.Sheet.{Sheet, Sizes, variables}
 use Rattle.sheet.specs.Lent.{lent_sheet}
-use Rattle.sheet_answers.specs.Answers.{first_no}
-use Rattle.variable_bounds.specs.Model.{model_of}
+use Rattle.sheet.specs.Answers.{first_no}
+use Rattle.edges.specs.Model.{model_of}
 use Rattle.edges.specs.Edges.{leaving_variable}
 use Rattle.certificate.specs.System.{system_of}
-use Rattle.added_row.specs.declared.lent.Lists.{Lists as ListSlices}
-use Rattle.added_row.specs.Added.{Lists}
-use Rattle.added_row.specs.Lent.{lent_lists}
+use Rattle.certificate.specs.declared.lent.Lists.{Lists as ListSlices}
+use Rattle.certificate.specs.Added.{Lists}
+use Rattle.certificate.specs.Lent.{lent_lists}
 use Rattle.certificate.specs.Certificate.{Certificate, combined, written}
 use Rattle.judgement.specs.declared.gap.Proof.{Proof}
 use Rattle.judgement.specs.Judgement.{judgement}

@@ -4,19 +4,16 @@
 #![tactic(auto)]
 
 ghost use Rattle.std.specs.Prelude.{◌≡◌};
-ghost use Rattle.refusal_numbers.specs.Numbers.{answered, numbered};
-ghost use Rattle.sheet_answers.specs.Answers.{Accepted, first_no};
-ghost use Rattle.added_row.specs.Lent.{SameSlices, lent_lists};
+ghost use Rattle.sheet.specs.Numbers.{answered, numbered};
+ghost use Rattle.sheet.specs.Answers.{Accepted, first_no};
+ghost use Rattle.certificate.specs.Lent.{SameSlices, lent_lists};
 ghost use Rattle.kept.specs.Kept.{after, filled_in, lent, outputs, proof_of, sheet_lent};
 
-use added_row::Lists;
-use certificate::certificate;
+use certificate::{Lists, certificate};
+use edges::leaving_variable;
 use judgement::{Proof, judge};
-use refinement_error::error_bounds;
-use refusal_numbers::Refusal;
-use sheet::{Outputs, Sheet};
-use sheet_answers::first_no;
-use variable_kinds::leaving_variable;
+use multipliers::error_bounds;
+use sheet::{Outputs, Refusal, Sheet, first_no};
 
 /// How many places are lent for each output.
 pub fn outputs_of(l: &Lists, errors: &[f64]) -> Outputs

@@ -4,9 +4,9 @@ use mathlib.Core.Bool.{Bool, true, false, cond}
 use Prim.Native.Nat.{ℕ}
 use lib.Dec.{eqb}
 use Rattle.std.specs.Prelude.{Result, Ok, Err}
-use Rattle.refusal_numbers.specs.Numbers.{answered}
+use Rattle.sheet.specs.Numbers.{answered}
 use Rattle.sheet.specs.Sheet.{Sheet}
-use Rattle.sheet_answers.specs.Answers.{first_no}
+use Rattle.sheet.specs.Answers.{first_no}
 use Rattle.judgement.specs.declared.gap.Proof.{Proof}
 use Rattle.kept.specs.Kept.{proof_of}
 use Rattle.kept_c.specs.declared.Kept.{Kept}

@@ -2,7 +2,7 @@
 use Rattle.std.specs.Prelude.{false, cond, ℕ, eqb, Result, Ok, Err}
 use Rattle.cdouble.specs.Compensated.{plus_zero}
 use Rattle.sheet.specs.Sheet.{Sheet}
-use Rattle.sheet_answers.specs.Answers.{first_no}
+use Rattle.sheet.specs.Answers.{first_no}
 use Rattle.judgement.specs.declared.gap.Proof.{Proof}
 use Rattle.kept.specs.Kept.{proof_of}
 use Rattle.kept_c.specs.declared.Kept.{Kept}

@@ -3,15 +3,14 @@
 
 ghost use Rattle.std.specs.Prelude.{◌≡◌};
 ghost use Rattle.sheet.specs.Sheet.{sheet};
-ghost use Rattle.added_row.specs.Added.{lists};
-ghost use Rattle.refusal_numbers.specs.Numbers.{numbered};
+ghost use Rattle.certificate.specs.Added.{lists};
+ghost use Rattle.sheet.specs.Numbers.{numbered};
 ghost use Rattle.kept.specs.Kept.{after, lent, outputs, sizes};
 ghost use Rattle.kept_c.specs.Answer.{answer, refused, told};
 
-use added_row::Lists;
+use certificate::Lists;
 use judgement::Proof;
-use refusal_numbers::Refusal;
-use sheet::Sheet;
+use sheet::{Refusal, Sheet};
 
 /// The number of the first question whose answer is no, or 0 and the kept numbers.
 // Kept: C has no Result: a number beside fields that are 0 where it is not.

@@ -3,9 +3,9 @@ use Rattle.std.specs.Prelude.{Bool, ℕ, get_or}
 use Rattle.std.specs.Float.{nan}
 use Rattle.doubles.specs.Compare.{absolute}
 use Rattle.questions.specs.Flags.{is_set}
-use Rattle.row_questions.specs.Rows.{slack_of}
+use Rattle.questions.specs.Rows.{slack_of}
 use Rattle.sheet.specs.declared.lent.Sheet.{Sheet as Slices}
-use Rattle.refinement_error.specs.Refinement.{rho_at}
+use Rattle.multipliers.specs.Refinement.{rho_at}
 use Rattle.multipliers.specs.declared.weighing.Multiplier.{Multiplier}
 use Rattle.multipliers.specs.Multipliers.{signed, weighed}
 

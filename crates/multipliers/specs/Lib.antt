@@ -1,2 +1,3 @@
 pub mod Multipliers
 pub mod Lent
+pub mod Refinement

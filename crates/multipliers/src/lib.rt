@@ -2,6 +2,8 @@
 
 #![tactic(auto)]
 
+mod refinement;
 mod weighing;
 
+pub use refinement::error_bounds;
 pub use weighing::{Multiplier, multiplier_at, spreads};

@@ -1,6 +1,6 @@
 //! What becomes of a row's multiplier.
 ghost use Rattle.std.specs.Prelude.{◌≡◌, length, ◌<◌};
-ghost use Rattle.row_questions.specs.Rows.{slack_of};
+ghost use Rattle.questions.specs.Rows.{slack_of};
 ghost use Rattle.multipliers.specs.Lent.{lent_multiplier};
 ghost use Rattle.multipliers.specs.Multipliers.{needs_infinite_side, signed, spreads, weighed};
 

@@ -5,9 +5,8 @@ ghost use Rattle.exact.specs.Value.{exact, signed};
 ghost use Rattle.rank_arithmetic.specs.Rank.{at_rank, double, infinity};
 ghost use Rattle.doubles.specs.Directed.{product_down, product_up, round_down, round_up, sum_down, sum_up, with_zero};
 
-use double_bits::is_finite;
+use double_bits::{SIGN, is_finite, negative, positive};
 use rank_arithmetic::{Bounds, rank_difference, rank_product, rank_sum};
-use ranked_doubles::{SIGN, negative, positive};
 
 /// A finite double by its sign and its rank.
 #[derive(Clone, Copy)]

@@ -8,17 +8,17 @@ use lib.Ieee.{Float}
 use Rattle.questions.specs.Limits.{most_rows, most_structurals}
 use Rattle.questions.specs.Flags.{is_set}
 use Rattle.sheet.specs.Sheet.{Sheet, variables}
-use Rattle.sheet_answers.specs.Answers.{Accepted}
-use Rattle.sheet_answers.proofs.Accepted.{all_yes, sizes_hold}
-use Rattle.sheet_answers.proofs.Consequences.{by_row, by_variable}
-use Rattle.variable_bounds.specs.Model.{model_of}
+use Rattle.sheet.specs.Answers.{Accepted}
+use Rattle.sheet.proofs.Accepted.{all_yes, sizes_hold}
+use Rattle.sheet.proofs.Consequences.{by_row, by_variable}
+use Rattle.edges.specs.Model.{model_of}
 use Rattle.edges.specs.Edges.{leaving_variable}
 use Rattle.edges.proofs.Laws.{readable}
 use Rattle.certificate.specs.System.{System, system_of, multiplier_at}
 use Rattle.certificate.proofs.Readable.{rows_with, row_readable}
 use Rattle.gaps.specs.Rows.{rows_in, ranges_in}
 use Rattle.gaps.specs.Steps.{outward_gap, outward_of}
-use Rattle.coefficients.specs.Reads.{RowRead}
+use Rattle.outward_sheet.specs.EndReads.{RowRead}
 use Rattle.outward_sheet.specs.Reads.{OutwardFits}
 
 module _ (s : Sheet) (accepted : Accepted s) where

@@ -10,15 +10,15 @@ use lib.Ieee.{Float, nan, inf, eq}
 use Rattle.cdouble.specs.Compensated.{plus_zero}
 use Rattle.questions.specs.Places.{all_below}
 use Rattle.certificate.specs.System.{System, multiplier_at}
-use Rattle.variable_bounds.specs.Model.{Model}
+use Rattle.edges.specs.Model.{Model}
 use Rattle.gaps.specs.Rows.{Rows, Ranges, KeptRows, finite_parts, rows_in}
 use Rattle.gaps.specs.Steps.{cl, cu, limited_at, largest, right_side, difference, outward_gap}
-use Rattle.coefficients.specs.Ends.{Added}
-use Rattle.coefficients.specs.Reads.{Long, RowsFit}
-use Rattle.widening_rooms.specs.Reads.{Readable}
-use Rattle.largest.specs.Walk.{at, largest_or_infinite}
-use Rattle.largest.proofs.Walk.{walk_same}
-use Rattle.largest.specs.Reads.{WalkFits}
+use Rattle.outward_sheet.specs.Ends.{Added}
+use Rattle.outward_sheet.specs.EndReads.{Long, RowsFit}
+use Rattle.edges.specs.RoomReads.{Readable}
+use Rattle.outward_sheet.specs.LargestWalk.{at, largest_or_infinite}
+use Rattle.outward_sheet.proofs.LargestWalk.{walk_same}
+use Rattle.outward_sheet.specs.LargestReads.{WalkFits}
 use Rattle.outward_sheet.specs.Reads.{OutwardFits}
 
 -- ---- both lists of zeros, with room for each variable

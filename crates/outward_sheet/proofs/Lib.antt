@@ -1,3 +1,7 @@
 pub mod Gap
 pub mod Fits
 pub mod NoPoint
+pub mod Ends
+pub mod Rows
+pub mod Written
+pub mod LargestWalk

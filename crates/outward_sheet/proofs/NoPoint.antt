@@ -4,7 +4,7 @@ use lib.Dec.{T}
 use lib.Ieee.{Float, lt}
 use Rattle.cdouble.specs.Compensated.{plus_zero}
 use Rattle.sheet.specs.Sheet.{Sheet, Doubles}
-use Rattle.sheet_answers.specs.Answers.{Accepted}
+use Rattle.sheet.specs.Answers.{Accepted}
 use Rattle.gaps.specs.Rows.{rows_of, ranges_of, kept_of}
 use Rattle.gaps.specs.Steps.{outward_of}
 use Rattle.gaps.specs.ThirdDemand.{NoPoint}

@@ -1,8 +1,8 @@
 -- The answer to a sheet: document 01, "Questions put to the input" and "The outward gap (added)". Assumes nothing.
 use Rattle.std.specs.Prelude.{ℕ, Float, Result}
-use Rattle.refusal_numbers.specs.Numbers.{answered}
+use Rattle.sheet.specs.Numbers.{answered}
 use Rattle.sheet.specs.Sheet.{Sheet}
-use Rattle.sheet_answers.specs.Answers.{first_no}
+use Rattle.sheet.specs.Answers.{first_no}
 use Rattle.gaps.specs.Steps.{outward_of}
 
 -- "the first "no" gives its number"; else the outward gap

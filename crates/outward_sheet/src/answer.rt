@@ -2,21 +2,19 @@
 ghost use Rattle.std.specs.Prelude.{◌≡◌, IfOk, T};
 ghost use Rattle.std.specs.Float.Ieee.{lt};
 ghost use Rattle.cdouble.specs.Compensated.{plus_zero};
-ghost use Rattle.refusal_numbers.specs.Numbers.{numbered};
+ghost use Rattle.sheet.specs.Numbers.{numbered};
 ghost use Rattle.sheet.specs.Lent.{lent_sheet};
 ghost use Rattle.sheet.specs.Sheet.{AllDoubles, Doubles};
-ghost use Rattle.sheet_answers.specs.Answers.{Accepted};
+ghost use Rattle.sheet.specs.Answers.{Accepted};
 ghost use Rattle.gaps.specs.Rows.{ranges_of, rows_of};
 ghost use Rattle.gaps.specs.Steps.{outward_of};
 ghost use Rattle.gaps.specs.ThirdDemand.{NoPoint};
 ghost use Rattle.outward_sheet.specs.Answer.{outward_answer};
 
 use crate::reckoning::outward_gap;
-use refinement_error::error_bounds;
-use refusal_numbers::Refusal;
-use sheet::{Outputs, Sheet};
-use sheet_answers::first_no;
-use variable_kinds::leaving_variable;
+use edges::leaving_variable;
+use multipliers::error_bounds;
+use sheet::{Outputs, Refusal, Sheet, first_no};
 
 /// The numbers of a lent slice are doubles, as its type says. A proof learns it by this call, which does nothing.
 fn slice_of_doubles(xs: &[f64])

@@ -4,7 +4,11 @@
 #![tactic(auto)]
 
 mod answer;
+mod coefficients;
+mod largest;
 mod reckoning;
 
 pub use answer::{gap_of, outward_of};
+pub use coefficients::add_rows;
+pub use largest::largest_value;
 pub use reckoning::outward_gap;

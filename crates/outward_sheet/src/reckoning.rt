@@ -1,17 +1,16 @@
 //! The five steps, from the multipliers to the gap.
 ghost use Rattle.std.specs.Prelude.{◌≡◌, ◌<◌, ℕ};
 ghost use Rattle.questions.specs.Places.{all_below};
-ghost use Rattle.variable_bounds.specs.Model.{lent_model};
+ghost use Rattle.edges.specs.Model.{lent_model};
 ghost use Rattle.certificate.specs.System.{lent_system, multiplier_at};
 ghost use Rattle.gaps.specs.Rows.{finite_parts, ranges_in, rows_in};
 ghost use Rattle.gaps.specs.Steps.{difference, outward_gap};
-ghost use Rattle.coefficients.specs.Reads.{MultiplierRead};
+ghost use Rattle.outward_sheet.specs.EndReads.{MultiplierRead};
 ghost use Rattle.outward_sheet.specs.Reads.{OutwardFits};
 
-use coefficients::add_rows;
+use crate::{add_rows, largest_value};
 use directed::rounded_sum;
 use double_bits::is_finite;
-use largest::largest_value;
 use multipliers::{Multiplier, multiplier_at};
 use questions::{MOST_ROWS, MOST_STRUCTURALS};
 use sheet::Sheet;

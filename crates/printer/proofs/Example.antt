@@ -4,8 +4,8 @@ use mathlib.Core.Bool.{true}
 use lib.Ieee.{of_bits, to_bits, binary64}
 use Rattle.std.specs.Prelude.{◌++◌, Ok, Err}
 use Rattle.printer.specs.declared.Lines.{Lines}
-use Rattle.text_words.specs.Text.{bytes}
-use Rattle.stored_text.specs.Digits.{digits, digit_count}
+use Rattle.text_items.specs.Text.{bytes}
+use Rattle.printer.specs.Digits.{digits, digit_count}
 use Rattle.printer.specs.Answer.{line, refusal_line, nine_lines, answer_text}
 
 abbrev verdict : Lines

@@ -9,10 +9,10 @@ use borrow.Author.Tests.{le-leb}
 use lib.ListN.{length, take, length-append}
 use Rattle.std.specs.Prelude.{Result, Ok, Err}
 use Rattle.printer.specs.declared.Lines.{Lines}
-use Rattle.stored_text.specs.Stored.{Stored}
+use Rattle.printer.specs.Stored.{Stored}
 use Rattle.printer.specs.Answer.{line, yes_or_no, refusal_line, nine_lines, answer_text, written_if_fits}
-use Rattle.stored_text.proofs.Lengths.{length-hexadecimal, decimal_short}
-use Rattle.stored_text.proofs.Storing.{front}
+use Rattle.printer.proofs.Lengths.{length-hexadecimal, decimal_short}
+use Rattle.printer.proofs.Storing.{front}
 
 flag_short : (b : Bool) → length (yes_or_no b) ≤ 3
 flag_short true = omega arith

@@ -2,8 +2,8 @@
 use Rattle.std.specs.Prelude.{Bool, cond, List, ◌++◌, ℕ, leb, length, Result, Ok, Err}
 use Rattle.std.proofs.lemmas.List.Edits.{sets}
 use Rattle.printer.specs.declared.Lines.{Lines}
-use Rattle.text_words.specs.Text.{bytes}
-use Rattle.stored_text.specs.Digits.{hexadecimal, decimal}
+use Rattle.text_items.specs.Text.{bytes}
+use Rattle.printer.specs.Digits.{hexadecimal, decimal}
 
 -- "every line ended by a newline byte": a line's opening, its value, and its end
 unfoldable pub line : List ℕ → List ℕ → List ℕ

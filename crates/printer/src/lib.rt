@@ -3,13 +3,16 @@
 #![tactic(auto)]
 
 ghost use Rattle.std.specs.Prelude.{◌≡◌, ℕ, ◌≤◌, length};
-ghost use Rattle.stored_text.specs.Stored.{Stored};
+ghost use Rattle.printer.specs.Stored.{Stored};
 ghost use Rattle.printer.specs.Answer.{answer_text, nine_lines, refusal_line, written_if_fits};
 
 use line::put_line;
-use stored_text::put_text;
 
 mod line;
+mod numerals;
+mod stored;
+
+pub use stored::{put_count, put_double, put_text};
 
 /// The values of the nine lines, in their order.
 #[derive(Clone, Copy)]

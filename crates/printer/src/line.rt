@@ -1,10 +1,10 @@
 //! One line of an answer. Each function returns the place after what it put.
 ghost use Rattle.std.specs.Prelude.{◌≡◌, List, ℕ, ◌+◌, ◌≤◌, length};
-ghost use Rattle.stored_text.specs.Digits.{hexadecimal, decimal};
-ghost use Rattle.stored_text.specs.Stored.{Stored};
+ghost use Rattle.printer.specs.Digits.{hexadecimal, decimal};
+ghost use Rattle.printer.specs.Stored.{Stored};
 ghost use Rattle.printer.specs.Answer.{line, yes_or_no};
 
-use stored_text::{put_count, put_double, put_text};
+use crate::{put_count, put_double, put_text};
 
 // Kept: `Shown`, no `Display`: what that writes is promised only where it answers Ok, and this cannot fail.
 /// A value that a line shows.
@@ -30,7 +30,7 @@ impl Shown for f64 {
 impl Shown for usize {
     ghost shown = { decimal };
 
-    #[tactic(auto, using(stored_text::proofs::Lengths::decimal_short))]
+    #[tactic(auto, using(crate::proofs::Lengths::decimal_short))]
     fn put(self, x: &mut [u8], from: usize) -> usize {
         put_count(x, from, self as u64)
     }

@@ -2,3 +2,8 @@ pub mod Limits
 pub mod Flags
 pub mod Places
 pub mod Questions
+pub mod BasisPlaces
+pub mod PlaceQuestions
+pub mod Tallies
+pub mod Rows
+pub mod RowQuestions

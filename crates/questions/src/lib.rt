@@ -3,9 +3,15 @@
 
 #![tactic(auto)]
 
+mod basis;
 mod lists;
+mod rows;
+mod widened;
 
+pub use basis::basis_fine;
 pub use lists::{all_finite, bounds_fine, leaving_row_fine, tolerances_fine};
+pub use rows::{columns_fine, entries_fine, starts_fine};
+pub use widened::{MARKS, mark_of, widened_fine};
 
 /// The limits of the second question.
 pub const MOST_ROWS: usize = 128;

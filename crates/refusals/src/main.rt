@@ -16,8 +16,7 @@
 ghost use Rattle.std.specs.Prelude.{◌+◌, ◌≤◌};
 
 use case_slices::{Numbers, ROWS, SLICES, Slice, Slices, VARIABLES, byte, outputs_alike};
-use sheet::Outputs;
-use sheet_answers::first_no;
+use sheet::{Outputs, first_no};
 use std::io;
 use tables::{Tallies, each_line, numbers};
 

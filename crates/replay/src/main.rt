@@ -21,12 +21,12 @@
 
 ghost use Rattle.std.specs.Prelude.{◌≤◌, length};
 
-use added_row::Lists;
 use case_slices::{NUMBERS, Numbers, SLICES, Slice, Slices, outputs_alike};
+use certificate::Lists;
 use judgement::Proof;
 use kept::proof_of;
 use outward_sheet::outward_of;
-use refusal_numbers::Refusal;
+use sheet::Refusal;
 use std::io;
 use tables::{Tally, bits_of, count, double_of, each_line, numbers};
 

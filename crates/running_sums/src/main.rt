@@ -8,8 +8,7 @@
 ghost use Rattle.std.specs.Prelude.{◌≡◌};
 ghost use Rattle.cdouble.specs.Compensated.{pair, plus, plus_scaled, plus_zero};
 
-use cdouble::CDouble;
-use lent_sums::{cdouble_add, cdouble_add_scaled};
+use cdouble::{CDouble, cdouble_add, cdouble_add_scaled};
 use std::io;
 use tables::{bits_of, double_of, each_line, number};
 

@@ -10,25 +10,25 @@ use lib.Ieee.{lt}
 use borrow.Author.Tests.{eq-eqb, eqb-true}
 use Rattle.std.specs.Prelude.{IfOk, Result, Ok, Err}
 use Rattle.cdouble.specs.Compensated.{plus_zero, value}
-use Rattle.refusal_numbers.specs.declared.Refusal.{Refusal}
-use Rattle.refusal_numbers.specs.Numbers.{numbered}
-use Rattle.refusal_numbers.proofs.Numbers.{ok_says}
+use Rattle.sheet.specs.declared.numbers.Refusal.{Refusal}
+use Rattle.sheet.specs.Numbers.{numbered}
+use Rattle.sheet.proofs.RefusalNumbers.{ok_says}
 use Rattle.sheet.specs.Sheet.{Sheet, variables}
 use Rattle.sheet.specs.Lengths.{lengths_fit, lengths_fine}
-use Rattle.sheet_answers.specs.Answers.{Accepted, ask, first_no}
-use Rattle.sheet_answers.proofs.Accepted.{all_yes}
-use Rattle.variable_bounds.specs.Model.{Model, model_of}
+use Rattle.sheet.specs.Answers.{Accepted, ask, first_no}
+use Rattle.sheet.proofs.Accepted.{all_yes}
+use Rattle.edges.specs.Model.{Model, model_of}
 use Rattle.edges.specs.Edges.{edge, leaving_variable}
-use Rattle.widening_rooms.specs.Rooms.{widening_room}
+use Rattle.edges.specs.Rooms.{widening_room}
 use Rattle.certificate.specs.Certificate.{Certificate}
 use Rattle.certificate.specs.System.{system_of}
-use Rattle.walk_states.specs.declared.steps.Coefficient.{Coefficient}
-use Rattle.walk_states.specs.declared.steps.Walk.{Walk}
-use Rattle.walk_states.specs.declared.steps.Walked.{Walked}
-use Rattle.walk_step.specs.Step.{coefficient_at, step}
+use Rattle.walk.specs.declared.states.Coefficient.{Coefficient}
+use Rattle.walk.specs.declared.states.Walk.{Walk}
+use Rattle.walk.specs.declared.states.Walked.{Walked}
+use Rattle.walk.specs.Step.{coefficient_at, step}
 use Rattle.walk.specs.Walk.{onward, walk_over}
 use Rattle.judgement.specs.declared.gap.Proof.{Proof}
-use Rattle.slack_cut.specs.Cut.{cut_at, leaving_slack_cut}
+use Rattle.judgement.specs.Cut.{cut_at, leaving_slack_cut}
 use Rattle.judgement.specs.Judgement.{judged, judgement}
 use Rattle.kept.specs.Kept.{Lent, after, certificate_of, filled_in, proof_of}
 use Rattle.gaps.specs.Rows.{Ranges, kept_of, ranges_of, rows_of}

@@ -1,8 +1,8 @@
 -- Two widened lists that say the same of a sheet. Assumes nothing.
 use Rattle.std.specs.Prelude.{◌≡◌, Bool, true, List, ℕ, length}
 use Rattle.questions.specs.Questions.{sizes_fine}
-use Rattle.place_questions.specs.Questions.{widened_fine}
-use Rattle.variable_kinds.specs.Variables.{is_widened}
+use Rattle.questions.specs.PlaceQuestions.{widened_fine}
+use Rattle.edges.specs.Variables.{is_widened}
 use Rattle.sheet.specs.Sheet.{Sheet, sheet, sizes_of, variables}
 
 -- the sheet with another widened list

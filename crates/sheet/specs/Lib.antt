@@ -1,3 +1,5 @@
 pub mod Sheet
 pub mod Lengths
 pub mod Lent
+pub mod Numbers
+pub mod Answers

@@ -3,7 +3,11 @@
 #![tactic(auto)]
 
 mod answers;
+mod in_order;
 mod lent;
+mod numbers;
 
 pub use answers::{Outputs, lengths_fine, sizes_fine};
+pub use in_order::first_no;
 pub use lent::Sheet;
+pub use numbers::Refusal;

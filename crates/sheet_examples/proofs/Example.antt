@@ -4,7 +4,7 @@ use mathlib.Core.Path.{◌≡◌, refl}
 use mathlib.Core.List.{[], ◌∷◌, ◌++◌}
 use mathlib.Core.Bool.{true, false}
 use Rattle.sheet.specs.Sheet.{sheet}
-use Rattle.text_words.specs.Text.{bytes}
+use Rattle.text_items.specs.Text.{bytes}
 use Rattle.sheet_text.specs.Form.{follows_form}
 use Rattle.sheet_text.specs.SheetIn.{lent_outputs, sheet_in}
 use Rattle.sheet_examples.proofs.Texts.{sizes, feasible, variable, slack, row, unchecked, rho, leave, text, zero, one, two, three, sheet_on_literals}

@@ -4,14 +4,14 @@ use mathlib.Core.Bool.{true, false}
 use lib.ListN.{length}
 use lib.Ieee.{nan, binary64, of_bits}
 use Rattle.std.specs.Prelude.{None, Some}
-use Rattle.text_words.specs.Text.{bytes}
-use Rattle.text_words.specs.Words.{expect, either}
-use Rattle.text_numbers.specs.Numbers.{digit_at, digits, at_least_one, number, double}
-use Rattle.text_heading.specs.Lines.{heading}
-use Rattle.text_variable_line.specs.Lines.{place_if, variable_from, var_line, slack_line, line_at}
-use Rattle.text_rows.specs.Lines.{row_head, no_pair, pair, row_end}
-use Rattle.text_sides.specs.Lines.{no_widened, sided_line, widened_line, leave_line}
-use Rattle.text_multipliers.specs.Lines.{multipliers_line, second_if, rho_line}
+use Rattle.text_items.specs.Text.{bytes}
+use Rattle.text_items.specs.Words.{expect, either}
+use Rattle.text_items.specs.Numbers.{digit_at, digits, at_least_one, number, double}
+use Rattle.text_lines.specs.Heading.{heading}
+use Rattle.text_lines.specs.VariableLines.{place_if, variable_from, var_line, slack_line, line_at}
+use Rattle.text_lines.specs.RowLines.{row_head, no_pair, pair, row_end}
+use Rattle.text_lines.specs.SidedLines.{no_widened, sided_line, widened_line, leave_line}
+use Rattle.text_lines.specs.MultiplierLines.{multipliers_line, second_if, rho_line}
 use Rattle.sheet_examples.proofs.Texts.{text, zero, one, two, three}
 
 -- "(sheet 1 1)" and "(feasibility 0)"

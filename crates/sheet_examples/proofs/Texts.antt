@@ -5,14 +5,14 @@ use Rattle.std.specs.Prelude.{⊤}
 use lib.Ieee.{Float, binary64, of_bits}
 use Rattle.repeats.specs.Counted.{run, after, gather}
 use Rattle.repeats.specs.Chained.{chain, chain_end}
-use Rattle.text_words.specs.Text.{bytes}
-use Rattle.text_numbers.specs.Numbers.{digit_at, digits, at_least_one, number, double}
-use Rattle.text_words.specs.Words.{expect, either}
-use Rattle.text_heading.specs.Lines.{heading}
-use Rattle.text_variable_line.specs.Lines.{place_if, variable_from, var_line, slack_line, line_at}
-use Rattle.text_rows.specs.Lines.{row_head, pair}
-use Rattle.text_sides.specs.Lines.{sided_line}
-use Rattle.text_multipliers.specs.Lines.{multipliers_line, second_if, rho_line}
+use Rattle.text_items.specs.Text.{bytes}
+use Rattle.text_items.specs.Numbers.{digit_at, digits, at_least_one, number, double}
+use Rattle.text_items.specs.Words.{expect, either}
+use Rattle.text_lines.specs.Heading.{heading}
+use Rattle.text_lines.specs.VariableLines.{place_if, variable_from, var_line, slack_line, line_at}
+use Rattle.text_lines.specs.RowLines.{row_head, pair}
+use Rattle.text_lines.specs.SidedLines.{sided_line}
+use Rattle.text_lines.specs.MultiplierLines.{multipliers_line, second_if, rho_line}
 use Rattle.text_lists.specs.Rows.{pairs_reached, row_pairs, row_line}
 use Rattle.text_lists.specs.Widened.{widened_reached}
 use Rattle.sheet_text.specs.Parts.{structural_lines_in, variable_lines_in, row_lines_in, pairs_in, widened_lines_in, rho_lines_in}

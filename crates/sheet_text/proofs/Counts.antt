@@ -5,10 +5,10 @@ use Prim.Native.Nat.{ℕ, zero, suc, ◌+◌, ◌*◌, ◌^◌, ◌<◌}
 use native.Mathlib.Nat.{pow-succ', mul_assoc, one-le-pow, mul-le-mul_left, lt_of_lt_of_le}
 use native.Mathlib.Omega.{arith}
 use Rattle.std.specs.Prelude.{Option, None, Some}
-use Rattle.text_numbers.specs.Numbers.{digit_at, digits, at_least_one, number, count}
-use Rattle.text_numbers.proofs.Digits.{digit_within}
-use Rattle.text_heading.specs.declared.heading.Heading.{Heading}
-use Rattle.text_heading.specs.Lines.{heading}
+use Rattle.text_items.specs.Numbers.{digit_at, digits, at_least_one, number, count}
+use Rattle.text_items.proofs.Digits.{digit_within}
+use Rattle.text_lines.specs.declared.heading_line.Heading.{Heading}
+use Rattle.text_lines.specs.Heading.{heading}
 
 -- a digit more, or none, where n more are few enough
 digit_below : (text : List ℕ) (n v position k : ℕ) → v < k → (o : Option ℕ) → digit_at text 10 position ≡ o

@@ -5,13 +5,13 @@ use Prim.Native.Nat.{ℕ, ◌+◌}
 use mathlib.Core.Bool.{Bool}
 use mir.Val.{bool_byte}
 use Rattle.std.specs.Prelude.{Option}
-use Rattle.text_words.specs.declared.Item.{Item}
-use Rattle.text_heading.specs.declared.heading.Heading.{Heading}
-use Rattle.text_sides.specs.declared.sided_lines.SidedLine.{SidedLine}
-use Rattle.text_heading.specs.Lines.{heading}
-use Rattle.text_multipliers.specs.Lines.{multipliers_line}
-use Rattle.text_sides.specs.Lines.{leave_line}
-use Rattle.text_variables.specs.Variables.{variable_lines, variable_lines_end}
+use Rattle.text_items.specs.declared.words.Item.{Item}
+use Rattle.text_lines.specs.declared.heading_line.Heading.{Heading}
+use Rattle.text_lines.specs.declared.sided_lines.SidedLine.{SidedLine}
+use Rattle.text_lines.specs.Heading.{heading}
+use Rattle.text_lines.specs.MultiplierLines.{multipliers_line}
+use Rattle.text_lines.specs.SidedLines.{leave_line}
+use Rattle.text_lists.specs.Variables.{variable_lines, variable_lines_end}
 use Rattle.text_lists.specs.declared.widened_list.Reached.{Reached}
 use Rattle.text_lists.specs.Rows.{row_lines, rows_reached, rows_pairs}
 use Rattle.text_lists.specs.Widened.{widened_lines, widened_reached}

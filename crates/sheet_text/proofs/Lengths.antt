@@ -12,11 +12,11 @@ use lib.Ieee.{Float}
 use Rattle.questions.specs.Limits.{most_rows, most_structurals}
 use Rattle.questions.specs.Questions.{sizes_fine}
 use Rattle.sheet.specs.Lengths.{rows_fit, variables_fit, outputs_fit, lengths_fit, lengths_fine}
-use Rattle.sheet_answers.proofs.Accepted.{sizes_hold, RowsHold, VariablesHold}
+use Rattle.sheet.proofs.Accepted.{sizes_hold, RowsHold, VariablesHold}
 use Rattle.repeats.proofs.Runs.{run_length}
-use Rattle.text_heading.specs.Lines.{heading}
-use Rattle.text_variable_line.specs.Lines.{line_at}
-use Rattle.text_variables.specs.Variables.{after_variable}
+use Rattle.text_lines.specs.Heading.{heading}
+use Rattle.text_lines.specs.VariableLines.{line_at}
+use Rattle.text_lists.specs.Variables.{after_variable}
 use Rattle.text_lists.specs.Rows.{row_at, after_row}
 use Rattle.text_lists.specs.Widened.{widened_reached}
 use Rattle.text_lists.specs.Multipliers.{rho_at, after_rho}

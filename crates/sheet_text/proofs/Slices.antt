@@ -11,10 +11,10 @@ use Rattle.std.specs.Prelude.{Option, None, Some}
 use Rattle.questions.proofs.All.{and_left, and_right}
 use Rattle.repeats.specs.Filled.{column, filled_from}
 use Rattle.repeats.proofs.Fronts.{whole_front, behind_first}
-use Rattle.text_words.specs.Words.{most_bytes}
-use Rattle.text_variable_line.specs.declared.variable_lines.VariableLine.{VariableLine}
-use Rattle.text_rows.specs.declared.row_items.Pair.{Pair}
-use Rattle.text_multipliers.specs.declared.multiplier_lines.RhoLine.{RhoLine}
+use Rattle.text_items.specs.Words.{most_bytes}
+use Rattle.text_lines.specs.declared.variable_lines.VariableLine.{VariableLine}
+use Rattle.text_lines.specs.declared.row_items.Pair.{Pair}
+use Rattle.text_lines.specs.declared.multiplier_lines.RhoLine.{RhoLine}
 use Rattle.text_lists.specs.declared.row_lists.RowLine.{RowLine}
 use Rattle.sheet_text.specs.Parts.{structural_lines_in, variable_lines_in, row_lines_in, pairs_in, rho_lines_in}
 use Rattle.sheet_text.specs.Form.{form_met, read_in, follows_form}

@@ -1,8 +1,8 @@
 -- Whether a text follows the sheet form: document 01, the first question. Assumes nothing.
 use Rattle.std.specs.Prelude.{Bool, false, ◌&&◌, List, ℕ, Option, None, Some, leb, eqb, length}
 use mir.Val.{bool_byte}
-use Rattle.text_words.specs.Words.{most_bytes}
-use Rattle.text_heading.specs.Lines.{heading}
+use Rattle.text_items.specs.Words.{most_bytes}
+use Rattle.text_lines.specs.Heading.{heading}
 use Rattle.sheet_text.specs.declared.Read.{Read}
 use Rattle.sheet_text.specs.Parts.{rows_reached_in, widened_reached_in, multipliers_in, leave_in}
 

@@ -1,6 +1,6 @@
 -- The lists of the code's `SheetLists`, each under its own name, and the lists after a text is read. Assumes nothing.
 use Rattle.std.specs.Prelude.{List, ℕ}
-use Rattle.text_variables.specs.Lent.{VariableLists, SameSlices as SameVariables, lent_variables, with_variables}
+use Rattle.text_lists.specs.VariablesLent.{VariableLists, SameSlices as SameVariables, lent_variables, with_variables}
 use Rattle.text_lists.specs.Lent.{RowLists, SameRows, lent_rows, with_rows, WidenedLists, SameWidened, lent_widened, with_widened_lines, RhoLists, SameRhos, lent_rhos, with_rhos}
 use Rattle.sheet_text.specs.declared.lent.SheetLists.{SheetLists as Slices}
 use Rattle.sheet_text.specs.Parts.{structural_lines_in, variable_lines_in, row_lines_in, pairs_in, widened_lines_in, rho_lines_in}

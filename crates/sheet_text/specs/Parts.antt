@@ -1,15 +1,15 @@
 -- The parts of a text, "lines in the example's order": document 01, "The sheet". Each begins where the one before it ends. Assumes nothing.
 use Rattle.std.specs.Prelude.{List, ℕ, ◌+◌, Bool, Option}
 use mir.Val.{bool_byte}
-use Rattle.text_words.specs.declared.Item.{Item}
-use Rattle.text_variable_line.specs.declared.variable_lines.VariableLine.{VariableLine}
-use Rattle.text_rows.specs.declared.row_items.Pair.{Pair}
-use Rattle.text_sides.specs.declared.sided_lines.SidedLine.{SidedLine}
-use Rattle.text_multipliers.specs.declared.multiplier_lines.RhoLine.{RhoLine}
-use Rattle.text_heading.specs.Lines.{heading}
-use Rattle.text_multipliers.specs.Lines.{multipliers_line}
-use Rattle.text_sides.specs.Lines.{leave_line}
-use Rattle.text_variables.specs.Variables.{variable_lines, variable_lines_end}
+use Rattle.text_items.specs.declared.words.Item.{Item}
+use Rattle.text_lines.specs.declared.variable_lines.VariableLine.{VariableLine}
+use Rattle.text_lines.specs.declared.row_items.Pair.{Pair}
+use Rattle.text_lines.specs.declared.sided_lines.SidedLine.{SidedLine}
+use Rattle.text_lines.specs.declared.multiplier_lines.RhoLine.{RhoLine}
+use Rattle.text_lines.specs.Heading.{heading}
+use Rattle.text_lines.specs.MultiplierLines.{multipliers_line}
+use Rattle.text_lines.specs.SidedLines.{leave_line}
+use Rattle.text_lists.specs.Variables.{variable_lines, variable_lines_end}
 use Rattle.text_lists.specs.declared.widened_list.Reached.{Reached}
 use Rattle.text_lists.specs.declared.row_lists.RowLine.{RowLine}
 use Rattle.text_lists.specs.Rows.{row_lines, rows_reached, rows_pairs}

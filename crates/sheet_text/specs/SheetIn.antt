@@ -4,10 +4,10 @@ use mir.Val.{bool_byte}
 use Rattle.questions.specs.Limits.{most_rows, most_structurals}
 use Rattle.sheet.specs.declared.answers.Outputs.{Outputs}
 use Rattle.sheet.specs.Sheet.{Sheet, sheet}
-use Rattle.text_variable_line.specs.declared.variable_lines.VariableLine.{VariableLine}
-use Rattle.text_rows.specs.declared.row_items.Pair.{Pair}
-use Rattle.text_sides.specs.declared.sided_lines.SidedLine.{SidedLine}
-use Rattle.text_multipliers.specs.declared.multiplier_lines.RhoLine.{RhoLine}
+use Rattle.text_lines.specs.declared.variable_lines.VariableLine.{VariableLine}
+use Rattle.text_lines.specs.declared.row_items.Pair.{Pair}
+use Rattle.text_lines.specs.declared.sided_lines.SidedLine.{SidedLine}
+use Rattle.text_lines.specs.declared.multiplier_lines.RhoLine.{RhoLine}
 use Rattle.text_lists.specs.declared.row_lists.RowLine.{RowLine}
 use Rattle.sheet_text.specs.Parts.{structural_lines_in, variable_lines_in, row_lines_in, pairs_in, widened_lines_in, rho_lines_in}
 use Rattle.sheet_text.specs.Form.{read_in}

@@ -1,7 +1,6 @@
 //! The lists of a sheet, as they are lent.
 
-use text_lists::{RhoLists, RowLists, WidenedLists};
-use text_variables::VariableLists;
+use text_lists::{RhoLists, RowLists, VariableLists, WidenedLists};
 
 /// What a text says of its variables, its rows, its widened items and its multipliers.
 #[derive(Drop)]

@@ -6,12 +6,9 @@ ghost use Rattle.std.specs.Prelude.{◌≡◌};
 ghost use Rattle.sheet_text.specs.Form.{read_in, form_met};
 ghost use Rattle.sheet_text.specs.Lent.{SameSlices, lent_lists, lists_in};
 
-use text_heading::heading_lines;
-use text_lists::{read_multipliers, read_rows, read_widened};
-use text_multipliers::multipliers_line;
-use text_sides::leave_line;
-use text_variables::read_variables;
-use text_words::MOST_BYTES;
+use text_items::MOST_BYTES;
+use text_lines::{heading_lines, leave_line, multipliers_line};
+use text_lists::{read_multipliers, read_rows, read_variables, read_widened};
 
 mod lent;
 

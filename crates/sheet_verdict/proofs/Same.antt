@@ -6,13 +6,13 @@ use Prim.Native.Nat.{ℕ, ◌+◌, ◌≤◌}
 use lib.ListN.{take}
 use borrow.Author.Tests.{le-leb}
 use Rattle.std.specs.Prelude.{Bool, Option, Result}
-use Rattle.refusal_numbers.specs.declared.Refusal.{Refusal}
-use Rattle.refusal_numbers.specs.Numbers.{numbered}
+use Rattle.sheet.specs.declared.numbers.Refusal.{Refusal}
+use Rattle.sheet.specs.Numbers.{numbered}
 use Rattle.questions.specs.Limits.{most_rows, most_structurals}
-use Rattle.place_questions.specs.Questions.{widened_fine}
-use Rattle.variable_kinds.specs.Variables.{is_widened}
+use Rattle.questions.specs.PlaceQuestions.{widened_fine}
+use Rattle.edges.specs.Variables.{is_widened}
 use Rattle.sheet.specs.Sheet.{Sheet, variables}
-use Rattle.sheet_answers.proofs.Accepted.{sizes_hold}
+use Rattle.sheet.proofs.Accepted.{sizes_hold}
 use Rattle.kept.specs.Kept.{Lent, after}
 use Rattle.verdict.specs.declared.Verdict.{Verdict}
 use Rattle.verdict.specs.Verdict.{verdict}
@@ -21,13 +21,13 @@ use Rattle.widened_records.specs.declared.Widened.{Widened}
 use Rattle.widened_records.specs.Records.{count_of, ups_of, variables_of}
 use Rattle.widened_records.specs.Found.{found_in}
 use Rattle.widened_records.specs.Listed.{found_ups, found_variables}
-use Rattle.many_widened.specs.Fewest.{most_widened}
+use Rattle.widened_records.specs.Fewest.{most_widened}
 use Rattle.widened_records.proofs.Counts.{count_few}
 use Rattle.widened_records.proofs.Front.{front_fine, front_whole}
 use Rattle.widened_records.proofs.Listed.{listed_fine, listed_held, listed_sided, records_sided}
 use Rattle.same_widened.specs.Interchangeable.{Interchangeable, has_size, with_widened}
 use Rattle.same_widened.proofs.SameWidened.{same_after, same_declined, same_verdict}
-use Rattle.found_verdict.specs.FoundSheet.{with_found}
+use Rattle.sheet_verdict.specs.FoundSheet.{with_found}
 
 -- a sheet that passes the second question has so many variables
 count_is : (s : Sheet) → has_size s ≡ true → count_of s.rows s.structurals ≡ variables s

@@ -4,8 +4,8 @@
 #![tactic(auto)]
 
 ghost use Rattle.std.specs.Prelude.{◌≡◌, IfOk, T};
-ghost use Rattle.refusal_numbers.specs.Numbers.{numbered};
-ghost use Rattle.added_row.specs.Lent.{SameSlices, lent_lists};
+ghost use Rattle.sheet.specs.Numbers.{numbered};
+ghost use Rattle.certificate.specs.Lent.{SameSlices, lent_lists};
 ghost use Rattle.kept.specs.Kept.{after, lent, sheet_lent};
 ghost use Rattle.gaps.specs.Rows.{ranges_of, rows_of};
 ghost use Rattle.gaps.specs.ThirdDemand.{NoPoint};
@@ -13,12 +13,14 @@ ghost use Rattle.verdict.specs.Verdict.{verdict};
 ghost use Rattle.widened_records.specs.Records.{ups_of, variables_of};
 ghost use Rattle.same_widened.specs.Interchangeable.{with_widened};
 
-use added_row::Lists;
-use found_verdict::verdict_found;
-use refusal_numbers::Refusal;
-use sheet::Sheet;
+use certificate::Lists;
+use sheet::{Refusal, Sheet};
 use verdict::Verdict;
 use widened_records::{Widened, search};
+
+mod found;
+
+pub use found::verdict_found;
 
 /// The questions, and the verdict on a sheet that passes them. The records stand for the sheet's own widened list.
 pub fn sheet_verdict(

@@ -2,9 +2,9 @@
 use mathlib.Core.Path.{◌≡◌, refl}
 use lib.Ieee.{nan, binary64, of_bits}
 use Rattle.std.specs.Prelude.{None, Some}
-use Rattle.text_words.specs.Text.{bytes}
-use Rattle.text_words.specs.Words.{expect}
-use Rattle.text_numbers.specs.Numbers.{digit_at, digits, at_least_one, number, double, count}
+use Rattle.text_items.specs.Text.{bytes}
+use Rattle.text_items.specs.Words.{expect}
+use Rattle.text_items.specs.Numbers.{digit_at, digits, at_least_one, number, double, count}
 use Rattle.text_items.specs.Items.{double_then, count_then}
 
 -- the digits of a double are of its lowest bits

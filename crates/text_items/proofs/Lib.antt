@@ -1,2 +1,4 @@
 pub mod Refused
 pub mod Examples
+pub mod Digits
+pub mod WordLaws

@@ -3,8 +3,8 @@ use mathlib.Core.Path.{◌≡◌, refl}
 use mathlib.Core.List.{List}
 use Prim.Native.Nat.{ℕ}
 use Rattle.std.specs.Prelude.{None}
-use Rattle.text_words.specs.Words.{expect, either}
-use Rattle.text_numbers.specs.Numbers.{number, double, count}
+use Rattle.text_items.specs.Words.{expect, either}
+use Rattle.text_items.specs.Numbers.{number, double, count}
 use Rattle.text_items.specs.Items.{double_then, count_then}
 
 module _ (text : List ℕ) where

@@ -1,8 +1,8 @@
 -- A number of the sheet and the word after it: document 01, "The sheet". Assumes nothing.
 use Rattle.std.specs.Prelude.{ℕ, List, Option, Float}
-use Rattle.text_words.specs.declared.Item.{Item}
-use Rattle.text_words.specs.Words.{followed_by}
-use Rattle.text_numbers.specs.Numbers.{double, count}
+use Rattle.text_items.specs.declared.words.Item.{Item}
+use Rattle.text_items.specs.Words.{followed_by}
+use Rattle.text_items.specs.Numbers.{double, count}
 
 -- a double and the word after it: "One space between items", or what ends them
 abbrev pub double_then : List ℕ → Option ℕ → List ℕ → Item Float

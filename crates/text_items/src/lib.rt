@@ -5,8 +5,13 @@
 ghost use Rattle.std.specs.Prelude.{◌≡◌};
 ghost use Rattle.text_items.specs.Items.{double_then, count_then};
 
-use text_numbers::{count_at, double_at};
-use text_words::Item;
+mod numbers;
+mod spaced;
+mod words;
+
+pub use numbers::{count_at, double_at};
+pub use spaced::{count_after, double_space, line_end};
+pub use words::{Item, MOST_BYTES, either, expect};
 
 /// A double and the word after it.
 pub fn double_then(text: &[u8], position: Option<usize>, word: &[u8]) -> Item<f64>

@@ -1,3 +1,4 @@
 pub mod Reaching
 pub mod Storing
 pub mod Slices
+pub mod Stored

@@ -7,8 +7,8 @@ use native.Mathlib.Omega.{arith}
 use lib.ListN.{length}
 use Rattle.repeats.specs.Chained.{chain_end}
 use Rattle.repeats.proofs.Gathers.{gather_counts}
-use Rattle.text_words.specs.Words.{most_bytes}
-use Rattle.text_sides.specs.Lines.{no_widened, widened_line}
+use Rattle.text_items.specs.Words.{most_bytes}
+use Rattle.text_lines.specs.SidedLines.{no_widened, widened_line}
 use Rattle.text_lists.specs.declared.widened_list.Reached.{Reached}
 use Rattle.text_lists.specs.declared.row_lists.RowLine.{RowLine}
 use Rattle.text_lists.specs.Widened.{after_widened, widened_lines, widened_reached}

@@ -15,9 +15,9 @@ use Rattle.repeats.specs.Filled.{filled_from}
 use Rattle.repeats.proofs.Stores.{step_left, sets_append}
 use Rattle.repeats.proofs.Chains.{Over, chain_counts_end}
 use mir.Val.{bool_byte}
-use Rattle.text_rows.specs.declared.row_items.Pair.{Pair}
-use Rattle.text_sides.specs.declared.sided_lines.SidedLine.{SidedLine}
-use Rattle.text_multipliers.specs.declared.multiplier_lines.RhoLine.{RhoLine}
+use Rattle.text_lines.specs.declared.row_items.Pair.{Pair}
+use Rattle.text_lines.specs.declared.sided_lines.SidedLine.{SidedLine}
+use Rattle.text_lines.specs.declared.multiplier_lines.RhoLine.{RhoLine}
 use Rattle.text_lists.specs.declared.row_lists.RowLine.{RowLine}
 use Rattle.text_lists.specs.declared.widened_list.Reached.{Reached}
 use Rattle.text_lists.specs.Lent.{RowLists, with_pair, with_pairs, with_row, with_rows, WidenedLists, with_widened_line, RhoLists, with_rho}

@@ -3,9 +3,9 @@
 use Rattle.std.specs.Prelude.{◌≡◌, ◌+◌, set, List, ℕ, Float}
 use mir.Val.{bool_byte}
 use Rattle.repeats.specs.Filled.{column, filled_from}
-use Rattle.text_rows.specs.declared.row_items.Pair.{Pair}
-use Rattle.text_sides.specs.declared.sided_lines.SidedLine.{SidedLine}
-use Rattle.text_multipliers.specs.declared.multiplier_lines.RhoLine.{RhoLine}
+use Rattle.text_lines.specs.declared.row_items.Pair.{Pair}
+use Rattle.text_lines.specs.declared.sided_lines.SidedLine.{SidedLine}
+use Rattle.text_lines.specs.declared.multiplier_lines.RhoLine.{RhoLine}
 use Rattle.text_lists.specs.declared.lent.RowLists.{RowLists as RowSlices}
 use Rattle.text_lists.specs.declared.lent.WidenedLists.{WidenedLists as WidenedSlices}
 use Rattle.text_lists.specs.declared.lent.RhoLists.{RhoLists as RhoSlices}

@@ -1,8 +1,8 @@
 -- The rho lines: document 01, "The sheet". Assumes nothing.
 use Rattle.std.specs.Prelude.{List, ℕ, Option}
 use Rattle.repeats.specs.Counted.{run, after}
-use Rattle.text_multipliers.specs.declared.multiplier_lines.RhoLine.{RhoLine}
-use Rattle.text_multipliers.specs.Lines.{rho_line}
+use Rattle.text_lines.specs.declared.multiplier_lines.RhoLine.{RhoLine}
+use Rattle.text_lines.specs.MultiplierLines.{rho_line}
 
 -- the position after a rho line
 abbrev pub after_rho : RhoLine → Option ℕ

@@ -1,9 +1,9 @@
 -- The widened lines: document 01, "The sheet". Assumes nothing.
 use Rattle.std.specs.Prelude.{List, ℕ, Option, length}
 use Rattle.repeats.specs.Chained.{chain, chain_end}
-use Rattle.text_words.specs.Words.{most_bytes}
-use Rattle.text_sides.specs.declared.sided_lines.SidedLine.{SidedLine}
-use Rattle.text_sides.specs.Lines.{no_widened, widened_line}
+use Rattle.text_items.specs.Words.{most_bytes}
+use Rattle.text_lines.specs.declared.sided_lines.SidedLine.{SidedLine}
+use Rattle.text_lines.specs.SidedLines.{no_widened, widened_line}
 use Rattle.text_lists.specs.declared.widened_list.Reached.{Reached}
 
 -- the position after a widened line

@@ -6,9 +6,13 @@
 mod lent;
 mod multiplier_list;
 mod row_lists;
+mod variables;
+mod variables_lent;
 mod widened_list;
 
 pub use lent::{RhoLists, RowLists, WidenedLists};
 pub use multiplier_list::read_multipliers;
 pub use row_lists::{RowLine, read_rows};
+pub use variables::read_variables;
+pub use variables_lent::VariableLists;
 pub use widened_list::{Reached, read_widened};

@@ -5,7 +5,7 @@ ghost use Rattle.text_lists.specs.Multipliers.{rho_lines, rho_lines_end};
 
 use crate::lent::RhoLists;
 use repeats::put;
-use text_multipliers::{RhoLine, rho_line};
+use text_lines::{RhoLine, rho_line};
 
 // The line of the i-th row, stored.
 fn store_rho(i: usize, line: RhoLine, l: &mut RhoLists)

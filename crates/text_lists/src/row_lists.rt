@@ -6,8 +6,8 @@ ghost use Rattle.text_lists.specs.Rows.{pairs, pairs_reached, row_pairs, row_lin
 use crate::lent::RowLists;
 use crate::widened_list::Reached;
 use repeats::put;
-use text_rows::{Pair, no_pair, pair_at, row_end, row_head};
-use text_words::MOST_BYTES;
+use text_items::MOST_BYTES;
+use text_lines::{Pair, no_pair, pair_at, row_end, row_head};
 
 /// What a row's line says of it.
 #[derive(Clone, Copy)]

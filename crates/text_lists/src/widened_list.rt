@@ -5,8 +5,8 @@ ghost use Rattle.text_lists.specs.Widened.{widened_lines, widened_reached};
 
 use crate::lent::WidenedLists;
 use repeats::put;
-use text_sides::{SidedLine, no_widened, widened_line};
-use text_words::MOST_BYTES;
+use text_items::MOST_BYTES;
+use text_lines::{SidedLine, no_widened, widened_line};
 
 /// How far a list was read.
 #[derive(Clone, Copy)]

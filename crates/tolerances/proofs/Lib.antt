@@ -1,3 +1,4 @@
 pub mod Literals
 pub mod Parts
 pub mod Room
+pub mod BandEdge

@@ -1,1 +1,2 @@
 pub mod Tolerances
+pub mod BandEdge

@@ -9,6 +9,10 @@ ghost use Rattle.tolerances.specs.Tolerances.{implied_slack_error, row_tolerance
 use double_bits::{max, min};
 use std::num::nearest_u64_to_f64;
 
+mod band;
+
+pub use band::band_edge;
+
 /// A variable's tolerances at its lower and upper bound.
 #[derive(Clone, Copy)]
 pub struct BoundTols {

@@ -5,10 +5,10 @@ use mathlib.Core.List.{List}
 use Prim.Native.Nat.{ℕ}
 use lib.Dec.{T, eqb}
 use Rattle.std.specs.Prelude.{IfOk, Result, Ok, Err}
-use Rattle.refusal_numbers.specs.declared.Refusal.{Refusal}
-use Rattle.refusal_numbers.specs.Numbers.{numbered}
+use Rattle.sheet.specs.declared.numbers.Refusal.{Refusal}
+use Rattle.sheet.specs.Numbers.{numbered}
 use Rattle.sheet.specs.Sheet.{Sheet}
-use Rattle.sheet_answers.specs.Answers.{first_no}
+use Rattle.sheet.specs.Answers.{first_no}
 use Rattle.gaps.specs.Rows.{ranges_of, rows_of}
 use Rattle.gaps.specs.ThirdDemand.{NoPoint}
 use Rattle.verdict.specs.declared.Verdict.{Verdict as Full}

@@ -2,7 +2,7 @@
 use Rattle.std.specs.Prelude.{false, cond, List, ℕ, eqb, Result, Ok, Err}
 use Rattle.cdouble.specs.Compensated.{plus_zero}
 use Rattle.sheet.specs.Sheet.{Sheet}
-use Rattle.sheet_answers.specs.Answers.{first_no}
+use Rattle.sheet.specs.Answers.{first_no}
 use Rattle.verdict.specs.declared.Verdict.{Verdict as Full}
 use Rattle.verdict.specs.Verdict.{full_verdict}
 use Rattle.sheet_text.specs.Form.{follows_form}

@@ -4,21 +4,20 @@
 ghost use Rattle.std.specs.Prelude.{◌≡◌, ◌≤◌, T, length};
 ghost use Rattle.cdouble.specs.Compensated.{plus, plus_scaled};
 ghost use Rattle.sheet.specs.Sheet.{sheet};
-ghost use Rattle.added_row.specs.Added.{lists};
+ghost use Rattle.certificate.specs.Added.{lists};
 ghost use Rattle.kept.specs.Kept.{after, lent, outputs, sizes};
 ghost use Rattle.gaps.specs.Rows.{ranges_of, rows_of};
 ghost use Rattle.gaps.specs.ThirdDemand.{NoPoint};
-ghost use Rattle.refusal_numbers.specs.Numbers.{numbered};
+ghost use Rattle.sheet.specs.Numbers.{numbered};
 ghost use Rattle.ushnazar_c.specs.Verdict.{refused_with, text_verdict, told, verdict};
 ghost use Rattle.widened_records.specs.Records.{ups_of, variables_of};
 ghost use Rattle.printer.specs.Answer.{written_if_fits};
 ghost use Rattle.sheet_text.specs.SheetIn.{sheet_in};
 ghost use Rattle.weigh_text.specs.TextVerdict.{most_answer, text_answer};
 
-use added_row::Lists;
 use cdouble::CDouble;
-use refusal_numbers::Refusal;
-use sheet::Sheet;
+use certificate::Lists;
+use sheet::{Refusal, Sheet};
 use widened_records::Widened;
 
 /// The number of the first question whose answer is no, or 0 and the verdict.
@@ -83,7 +82,7 @@ impl From<Result<verdict::Verdict, Refusal>> for Verdict {
 pub extern "C" fn cdouble_add(p: &mut CDouble, v: f64)
     ensures { p.new ≡ plus p.old v }
 {
-    lent_sums::cdouble_add(p, v);
+    cdouble::cdouble_add(p, v);
 }
 
 /// `p + c · b`, in place.
@@ -91,7 +90,7 @@ pub extern "C" fn cdouble_add(p: &mut CDouble, v: f64)
 pub extern "C" fn cdouble_add_scaled(p: &mut CDouble, c: CDouble, b: f64)
     ensures { p.new ≡ plus_scaled p.old c b }
 {
-    lent_sums::cdouble_add_scaled(p, c, b);
+    cdouble::cdouble_add_scaled(p, c, b);
 }
 
 /// The entry point: the verdict on a sheet whose widened list is lent as records.

@@ -8,11 +8,11 @@ use Rattle.std.specs.Prelude.{IfOk, Result, Ok, Err}
 use Rattle.std.specs.Result.{IsErrAnd}
 use Rattle.std.proofs.lemmas.Result.{err_from_is_err_and}
 use Rattle.cdouble.specs.Compensated.{plus_zero}
-use Rattle.refusal_numbers.specs.declared.Refusal.{Refusal}
-use Rattle.refusal_numbers.specs.Numbers.{number_of, numbered}
-use Rattle.refusal_numbers.proofs.Numbers.{answered_err, answered_ok}
+use Rattle.sheet.specs.declared.numbers.Refusal.{Refusal}
+use Rattle.sheet.specs.Numbers.{number_of, numbered}
+use Rattle.sheet.proofs.RefusalNumbers.{answered_err, answered_ok}
 use Rattle.sheet.specs.Sheet.{Sheet, Doubles}
-use Rattle.sheet_answers.specs.Answers.{first_no}
+use Rattle.sheet.specs.Answers.{first_no}
 use Rattle.judgement.specs.declared.gap.Proof.{Proof}
 use Rattle.kept.specs.Kept.{Lent, after, filled_in, proof_of}
 use Rattle.kept.proofs.Whole.{after_full, after_refused}

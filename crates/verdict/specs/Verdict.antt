@@ -3,7 +3,7 @@ use Rattle.std.specs.Prelude.{Bool, cond, ◌&&◌, ℕ, eqb, Float, Result, Ok,
 use Rattle.std.specs.Float.Ieee.{lt}
 use Rattle.cdouble.specs.Compensated.{plus_zero}
 use Rattle.sheet.specs.Sheet.{Sheet}
-use Rattle.sheet_answers.specs.Answers.{first_no}
+use Rattle.sheet.specs.Answers.{first_no}
 use Rattle.judgement.specs.declared.gap.Proof.{Proof}
 use Rattle.kept.specs.Kept.{proof_of}
 use Rattle.gaps.specs.Steps.{outward_of}

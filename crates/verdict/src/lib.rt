@@ -4,20 +4,18 @@
 #![tactic(auto)]
 
 ghost use Rattle.std.specs.Prelude.{◌≡◌, IfOk, T};
-ghost use Rattle.refusal_numbers.specs.Numbers.{numbered};
-ghost use Rattle.added_row.specs.Lent.{SameSlices, lent_lists};
+ghost use Rattle.sheet.specs.Numbers.{numbered};
+ghost use Rattle.certificate.specs.Lent.{SameSlices, lent_lists};
 ghost use Rattle.kept.specs.Kept.{after, lent, sheet_lent};
 ghost use Rattle.gaps.specs.Rows.{ranges_of, rows_of};
 ghost use Rattle.gaps.specs.ThirdDemand.{NoPoint};
 ghost use Rattle.verdict.specs.Verdict.{verdict, with_outward};
 
-use added_row::Lists;
+use certificate::Lists;
 use judgement::Proof;
 use kept::{outputs_of, weighed};
 use outward_sheet::gap_of;
-use refusal_numbers::Refusal;
-use sheet::Sheet;
-use sheet_answers::first_no;
+use sheet::{Refusal, Sheet, first_no};
 
 /// The verdict on an accepted sheet.
 #[derive(Clone, Copy)]

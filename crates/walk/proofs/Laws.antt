@@ -14,15 +14,15 @@ use Rattle.doubles.specs.Compare.{absolute}
 use Rattle.cdouble.specs.Compensated.{plus_zero, value}
 use Rattle.cdouble.proofs.Contracts.{differ}
 use Rattle.certificate.specs.Certificate.{Certificate}
-use Rattle.variable_bounds.specs.Model.{Model, bound_of}
+use Rattle.edges.specs.Model.{Model, bound_of}
 use Rattle.edges.specs.Edges.{edge}
-use Rattle.walk_states.specs.declared.steps.Coefficient.{Coefficient}
-use Rattle.walk_states.specs.declared.steps.Walk.{Walk}
-use Rattle.walk_states.specs.declared.steps.End.{End}
-use Rattle.walk_states.specs.declared.steps.End.TheVariants.{Through, Spoilt, Unlimited}
-use Rattle.walk_states.specs.declared.steps.Walked.{Walked}
-use Rattle.walk_states.specs.States.{at_infinity, counted, counted_as_zero, error_of_zero, walked}
-use Rattle.walk_step.specs.Step.{coefficient_at, step}
+use Rattle.walk.specs.declared.states.Coefficient.{Coefficient}
+use Rattle.walk.specs.declared.states.Walk.{Walk}
+use Rattle.walk.specs.declared.states.End.{End}
+use Rattle.walk.specs.declared.states.End.TheVariants.{Through, Spoilt, Unlimited}
+use Rattle.walk.specs.declared.states.Walked.{Walked}
+use Rattle.walk.specs.States.{at_infinity, counted, counted_as_zero, error_of_zero, walked}
+use Rattle.walk.specs.Step.{coefficient_at, step}
 use Rattle.walk.specs.Walk.{onward, walk_over}
 
 -- ---- a walk that has ended

@@ -11,19 +11,19 @@ use lib.Ieee.{Float, lt}
 use Rattle.std.specs.declared.ops.Range.{Range}
 use Rattle.cdouble.specs.Compensated.{plus_zero, value}
 use Rattle.certificate.specs.Certificate.{Certificate}
-use Rattle.added_row.specs.Added.{Lists}
+use Rattle.certificate.specs.Added.{Lists}
 use Rattle.certificate.specs.Reads.{Lent}
-use Rattle.variable_bounds.specs.Model.{Model, bound_of}
+use Rattle.edges.specs.Model.{Model, bound_of}
 use Rattle.edges.specs.Edges.{edge}
-use Rattle.walk_states.specs.declared.steps.Coefficient.{Coefficient}
-use Rattle.walk_states.specs.declared.steps.Walk.{Walk}
-use Rattle.walk_states.specs.declared.steps.End.{End}
-use Rattle.walk_states.specs.declared.steps.End.TheVariants.{Through, Spoilt, Unlimited}
-use Rattle.walk_states.specs.declared.steps.Walked.{Walked}
-use Rattle.walk_step.specs.Step.{coefficient_at, step}
-use Rattle.walk_states.specs.States.{counted, counted_as_zero, walked}
+use Rattle.walk.specs.declared.states.Coefficient.{Coefficient}
+use Rattle.walk.specs.declared.states.Walk.{Walk}
+use Rattle.walk.specs.declared.states.End.{End}
+use Rattle.walk.specs.declared.states.End.TheVariants.{Through, Spoilt, Unlimited}
+use Rattle.walk.specs.declared.states.Walked.{Walked}
+use Rattle.walk.specs.Step.{coefficient_at, step}
+use Rattle.walk.specs.States.{counted, counted_as_zero, walked}
 use Rattle.walk.specs.Walk.{onward, started, walk_over}
-use Rattle.walk_step.specs.Reads.{StepFits}
+use Rattle.walk.specs.StepReads.{StepFits}
 use Rattle.walk.specs.Reads.{WalkFits}
 use Rattle.walk.proofs.Laws.{Ended, ended_stays, step_cases}
 

@@ -1,2 +1,6 @@
 pub mod Walk
 pub mod Reads
+pub mod StateReads
+pub mod States
+pub mod StepReads
+pub mod Step

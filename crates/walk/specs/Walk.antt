@@ -1,14 +1,14 @@
 -- The walk over the variables in ascending order, and how it ended: document 01, "The judgement". Assumes nothing.
 use Rattle.std.specs.Prelude.{Bool, ℕ, zero, suc}
 use Rattle.cdouble.specs.Compensated.{pair, plus_zero}
-use Rattle.added_row.specs.declared.adding.Sums.{Sums}
+use Rattle.certificate.specs.declared.adding.Sums.{Sums}
 use Rattle.certificate.specs.Certificate.{Certificate}
-use Rattle.variable_bounds.specs.Model.{Model}
-use Rattle.walk_states.specs.declared.steps.Walk.{Walk}
-use Rattle.walk_states.specs.declared.steps.End.TheVariants.{Through, Spoilt, Unlimited}
-use Rattle.walk_states.specs.declared.steps.Walked.{Walked}
-use Rattle.walk_step.specs.Step.{coefficient_at, step}
-use Rattle.walk_states.specs.States.{walk, walked}
+use Rattle.edges.specs.Model.{Model}
+use Rattle.walk.specs.declared.states.Walk.{Walk}
+use Rattle.walk.specs.declared.states.End.TheVariants.{Through, Spoilt, Unlimited}
+use Rattle.walk.specs.declared.states.Walked.{Walked}
+use Rattle.walk.specs.Step.{coefficient_at, step}
+use Rattle.walk.specs.States.{walk, walked}
 
 -- before any variable; the first sum of the gap is beta's, of so many rows
 abbrev pub started : Sums → Walk

@@ -1,16 +1,15 @@
 //! The steps of the walk.
 ghost use Rattle.std.specs.Prelude.{◌≡◌};
-ghost use Rattle.variable_bounds.specs.Model.{lent_model};
+ghost use Rattle.edges.specs.Model.{lent_model};
 ghost use Rattle.certificate.specs.Certificate.{certificate};
-ghost use Rattle.added_row.specs.Lent.{lent_lists};
+ghost use Rattle.certificate.specs.Lent.{lent_lists};
 ghost use Rattle.walk.specs.Walk.{walk_over};
 ghost use Rattle.walk.specs.Reads.{WalkFits};
 
-use added_row::{Lists, Sums};
+use crate::{End, Walk, Walked, step};
 use cdouble::CDouble;
+use certificate::{Lists, Sums};
 use sheet::Sheet;
-use walk_states::{End, Walk, Walked};
-use walk_step::step;
 
 /// The walk over the first `count` variables.
 pub fn walk_over(

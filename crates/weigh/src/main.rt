@@ -3,7 +3,7 @@
 
 use std::io::Read;
 use tables::{each_line, read_full};
-use text_words::MOST_BYTES;
+use text_items::MOST_BYTES;
 use weigh_text::{MOST_ANSWER, weigh_text};
 
 // One byte more than a sheet may have, so that a longer text is seen to be one.

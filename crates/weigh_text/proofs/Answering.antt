@@ -5,9 +5,9 @@ use Prim.Native.Nat.{ℕ, ◌≤◌}
 use lib.Dec.{T}
 use lib.ListN.{length}
 use Rattle.std.specs.Prelude.{IfOk, Result, Ok, Err}
-use Rattle.refusal_numbers.specs.declared.Refusal.{Refusal}
-use Rattle.refusal_numbers.specs.Numbers.{number_of, numbered}
-use Rattle.refusal_numbers.proofs.Numbers.{ok_numbered}
+use Rattle.sheet.specs.declared.numbers.Refusal.{Refusal}
+use Rattle.sheet.specs.Numbers.{number_of, numbered}
+use Rattle.sheet.proofs.RefusalNumbers.{ok_numbered}
 use Rattle.printer.specs.declared.Lines.{Lines}
 use Rattle.printer.specs.Answer.{answer_text, written_if_fits}
 use Rattle.printer.proofs.Parts.{answer_short}

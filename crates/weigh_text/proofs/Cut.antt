@@ -8,9 +8,9 @@ use lib.Seq.{take_all}
 use Rattle.std.specs.Prelude.{Err}
 use Rattle.questions.specs.Questions.{sizes_fine}
 use Rattle.sheet.specs.Sheet.{Sheet, variables}
-use Rattle.sheet_answers.specs.Answers.{ask, first_no}
+use Rattle.sheet.specs.Answers.{ask, first_no}
 use Rattle.verdict.specs.Verdict.{verdict}
-use Rattle.many_widened.proofs.ManyWidened.{fine_few, front_decides}
+use Rattle.widened_records.proofs.ManyWidened.{fine_few, front_decides}
 use Rattle.same_widened.specs.Interchangeable.{Interchangeable, with_widened}
 
 -- a sheet with its widened list cut

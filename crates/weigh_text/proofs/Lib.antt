@@ -1,3 +1,4 @@
 pub mod Cut
 pub mod Reading
 pub mod Answering
+pub mod Whole

@@ -10,11 +10,11 @@ use lib.ListN.{length, get_or, take}
 use lib.Seq.{length-sets}
 use Rattle.cdouble.proofs.Contracts.{when_true, when_false}
 use Rattle.std.specs.Prelude.{Result, Ok, Err}
-use Rattle.refusal_numbers.specs.declared.Refusal.{Refusal}
-use Rattle.refusal_numbers.specs.Numbers.{numbered}
+use Rattle.sheet.specs.declared.numbers.Refusal.{Refusal}
+use Rattle.sheet.specs.Numbers.{numbered}
 use Rattle.questions.specs.Questions.{sizes_fine}
 use Rattle.sheet.specs.Sheet.{Sheet, variables}
-use Rattle.sheet_answers.proofs.Accepted.{SizesHold, sizes_hold, lengths_hold}
+use Rattle.sheet.proofs.Accepted.{SizesHold, sizes_hold, lengths_hold}
 use Rattle.verdict.specs.declared.Verdict.{Verdict}
 use Rattle.verdict.specs.Verdict.{verdict}
 use Rattle.verdict.proofs.Whole.{Declined}
@@ -23,10 +23,10 @@ use Rattle.same_widened.proofs.SameWidened.{same_verdict, same_declined}
 use Rattle.repeats.specs.Filled.{column}
 use Rattle.repeats.proofs.Fronts.{front_of}
 use Rattle.std.proofs.lemmas.List.{take-map}
-use Rattle.text_variable_line.specs.declared.variable_lines.VariableLine.{VariableLine}
-use Rattle.text_rows.specs.declared.row_items.Pair.{Pair}
-use Rattle.text_sides.specs.declared.sided_lines.SidedLine.{SidedLine}
-use Rattle.text_multipliers.specs.declared.multiplier_lines.RhoLine.{RhoLine}
+use Rattle.text_lines.specs.declared.variable_lines.VariableLine.{VariableLine}
+use Rattle.text_lines.specs.declared.row_items.Pair.{Pair}
+use Rattle.text_lines.specs.declared.sided_lines.SidedLine.{SidedLine}
+use Rattle.text_lines.specs.declared.multiplier_lines.RhoLine.{RhoLine}
 use Rattle.text_lists.specs.declared.row_lists.RowLine.{RowLine}
 use Rattle.sheet_text.specs.declared.Read.{Read}
 use Rattle.sheet_text.specs.Parts.{widened_lines_in}
@@ -35,9 +35,9 @@ use Rattle.sheet_text.specs.Lent.{SheetLists, lists_in}
 use Rattle.sheet_text.specs.SheetIn.{sheet_in}
 use Rattle.sheet_text.proofs.Lengths.{widened_long, lengths_are_fine}
 use Rattle.sheet_text.proofs.Slices.{structurals_cut, variables_cut, rows_cut, starts_cut, pairs_cut, rhos_cut, form_is}
-use Rattle.many_widened.specs.Fewest.{fewest, most_widened}
-use Rattle.many_widened.proofs.Fewest.{fewest_most, fewest_takes, fewest-within}
-use Rattle.front_verdict.specs.Fronts.{most_variables, HasRoom, fronts, front_verdict}
+use Rattle.widened_records.specs.Fewest.{fewest, most_widened}
+use Rattle.widened_records.proofs.FewestItems.{fewest_most, fewest_takes, fewest-within}
+use Rattle.weigh_text.specs.Fronts.{most_variables, HasRoom, fronts, front_verdict}
 use Rattle.weigh_text.specs.TextVerdict.{sheet_with, text_verdict}
 use Rattle.weigh_text.proofs.Cut.{cut_widened, cut_interchangeable, sizes-refused}
 

@@ -1,1 +1,2 @@
 pub mod TextVerdict
+pub mod Fronts

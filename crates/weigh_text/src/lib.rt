@@ -12,8 +12,10 @@ ghost use Rattle.weigh_text.specs.TextVerdict.{lines_of, most_answer, text_answe
 use printer::{Lines, put_answer};
 use verdict::Verdict;
 
+mod front;
 mod text;
 
+pub use front::{MOST_VARIABLES, verdict_on};
 pub use text::text_verdict;
 
 /// No answer is longer.

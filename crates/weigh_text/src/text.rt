@@ -1,23 +1,21 @@
 //! The verdict on a text: the first question, then the verdict on the sheet that the text says.
 ghost use Rattle.std.specs.Prelude.{◌≡◌, IfOk, T};
-ghost use Rattle.refusal_numbers.specs.Numbers.{numbered};
+ghost use Rattle.sheet.specs.Numbers.{numbered};
 ghost use Rattle.gaps.specs.Rows.{ranges_of, rows_of};
 ghost use Rattle.gaps.specs.ThirdDemand.{NoPoint};
 ghost use Rattle.sheet_text.specs.Lent.{lent_lists};
 ghost use Rattle.sheet_text.specs.SheetIn.{sheet_in};
-ghost use Rattle.many_widened.specs.Fewest.{fewest};
-ghost use Rattle.front_verdict.specs.Fronts.{HasRoom, front_verdict, fronts};
+ghost use Rattle.widened_records.specs.Fewest.{fewest};
+ghost use Rattle.weigh_text.specs.Fronts.{HasRoom, front_verdict, fronts};
 ghost use Rattle.weigh_text.specs.TextVerdict.{sheet_with, text_verdict};
 
-use front_verdict::{MOST_VARIABLES, verdict_on};
-use many_widened::MOST_WIDENED;
+use crate::{MOST_VARIABLES, verdict_on};
 use questions::{MOST_ENTRIES, MOST_ROWS, MOST_STRUCTURALS};
-use refusal_numbers::Refusal;
-use sheet::Sheet;
+use sheet::{Refusal, Sheet};
 use sheet_text::{Read, SheetLists, follows_form, read_sheet};
-use text_lists::{RhoLists, RowLists, WidenedLists};
-use text_variables::VariableLists;
+use text_lists::{RhoLists, RowLists, VariableLists, WidenedLists};
 use verdict::Verdict;
+use widened_records::MOST_WIDENED;
 
 // The verdict on the sheet at the fronts of lists that a text was read into.
 fn verdict_in(read: Read, l: &SheetLists) -> Result<Verdict, Refusal>

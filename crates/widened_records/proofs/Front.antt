@@ -9,9 +9,9 @@ use Rattle.std.proofs.lemmas.List.{take-map, take_min}
 use lib.ListN.{length, take, length-map}
 use lib.Seq.{take_all}
 use Rattle.questions.specs.Limits.{most_rows, most_structurals}
-use Rattle.place_questions.specs.Questions.{widened_fine}
-use Rattle.many_widened.specs.Fewest.{most_widened}
-use Rattle.many_widened.proofs.ManyWidened.{fine_few, front_decides}
+use Rattle.questions.specs.PlaceQuestions.{widened_fine}
+use Rattle.widened_records.specs.Fewest.{most_widened}
+use Rattle.widened_records.proofs.ManyWidened.{fine_few, front_decides}
 use Rattle.widened_records.specs.declared.Widened.{Widened}
 use Rattle.widened_records.specs.Records.{count_of, ups_of, variables_of}
 use Rattle.widened_records.specs.Found.{found_in}

@@ -3,3 +3,7 @@ pub mod Marked
 pub mod Listed
 pub mod Front
 pub mod Searched
+pub mod ManyWidened
+pub mod FewestItems
+pub mod Items
+pub mod Fronts

@@ -15,10 +15,10 @@ use Rattle.questions.specs.Limits.{most_rows, most_structurals}
 use Rattle.questions.specs.Flags.{is_set}
 use Rattle.questions.specs.Places.{all_below}
 use Rattle.questions.proofs.All.{and_left, and_right}
-use Rattle.place_questions.specs.Places.{widened_among}
-use Rattle.place_questions.specs.Questions.{item_fine_at, widened_fine}
-use Rattle.place_questions.specs.Tallies.{mark_of}
-use Rattle.variable_kinds.specs.Variables.{is_widened}
+use Rattle.questions.specs.BasisPlaces.{widened_among}
+use Rattle.questions.specs.PlaceQuestions.{item_fine_at, widened_fine}
+use Rattle.questions.specs.Tallies.{mark_of}
+use Rattle.edges.specs.Variables.{is_widened}
 use Rattle.widened_records.specs.declared.Widened.{Widened}
 use Rattle.widened_records.specs.Records.{variables_of, ups_of}
 use Rattle.widened_records.specs.Found.{found_in}

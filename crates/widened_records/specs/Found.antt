@@ -3,7 +3,7 @@ use Rattle.std.specs.Prelude.{Bool, true, false, not, cond, ◌&&◌, List, [], 
 use Rattle.std.specs.Option.{option_and_then}
 use Rattle.questions.specs.Limits.{most_rows, most_structurals}
 use Rattle.questions.specs.Flags.{is_set}
-use Rattle.place_questions.specs.Tallies.{mark_of}
+use Rattle.questions.specs.Tallies.{mark_of}
 use Rattle.widened_records.specs.declared.Widened.{Widened}
 
 -- before the search no mark is set

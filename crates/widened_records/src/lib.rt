@@ -5,17 +5,20 @@
 
 ghost use Rattle.std.specs.Prelude.{◌≡◌, Bool, false, cond, ℕ, ◌+◌, ◌<◌, ◌≤◌, get_or, take, None, Some, IfSome, is_some};
 ghost use Rattle.questions.specs.Limits.{most_rows, most_structurals};
-ghost use Rattle.place_questions.specs.Tallies.{mark_of};
-ghost use Rattle.place_questions.specs.Questions.{widened_fine};
-ghost use Rattle.variable_kinds.specs.Variables.{is_widened};
-ghost use Rattle.many_widened.specs.Fewest.{most_widened};
+ghost use Rattle.questions.specs.Tallies.{mark_of};
+ghost use Rattle.questions.specs.PlaceQuestions.{widened_fine};
+ghost use Rattle.edges.specs.Variables.{is_widened};
+ghost use Rattle.widened_records.specs.Fewest.{most_widened};
 ghost use Rattle.widened_records.specs.Records.{count_of, ups_of, variables_of};
 ghost use Rattle.widened_records.specs.Found.{found_in, noted_in};
 
-use many_widened::MOST_WIDENED;
-pub use place_questions::MARKS;
-use place_questions::mark_of;
-use questions::{MOST_ROWS, MOST_STRUCTURALS};
+pub use fewest::{MOST_WIDENED, looked_at};
+pub use listing::listed;
+pub use questions::MARKS;
+use questions::{MOST_ROWS, MOST_STRUCTURALS, mark_of};
+
+mod fewest;
+mod listing;
 
 /// An item of the widened list: a variable, and the side, up where the flag is set.
 #[repr(C)]

@@ -1,10 +1,10 @@
 -- `proof_of` meets its contract. Assumes nothing.
 use mathlib.Core.Path.{◌≡◌, refl, sym, subst}
-use Rattle.refusal_numbers.specs.Numbers.{number_of}
-use Rattle.refusal_numbers.proofs.Numbers.{answered_err, answered_ok}
+use Rattle.sheet.specs.Numbers.{number_of}
+use Rattle.sheet.proofs.RefusalNumbers.{answered_err, answered_ok}
 use Rattle.sheet.specs.declared.answers.Outputs.{Outputs}
 use Rattle.sheet.specs.Lent.{lent_sheet}
-use Rattle.sheet_answers.specs.Answers.{first_no}
+use Rattle.sheet.specs.Answers.{first_no}
 use Rattle.kept.proofs.Whole.{after_full, after_refused}
 use Rattle.kept.proofs.proof_of.Goals as goal
 

@@ -1,9 +1,9 @@
 -- `weighed` meets its contract. Assumes nothing.
 use native.Mathlib.Omega.{arith}
 use mathlib.Core.Path.{refl, sym, ◌∙◌}
-use Rattle.sheet_answers.proofs.Accepted.{all_yes}
-use Rattle.sheet_answers.proofs.Consequences.{by_row, by_variable}
-use Rattle.added_row.specs.Lent.{lent_lists}
+use Rattle.sheet.proofs.Accepted.{all_yes}
+use Rattle.sheet.proofs.Consequences.{by_row, by_variable}
+use Rattle.certificate.specs.Lent.{lent_lists}
 use Rattle.kept.specs.Kept.{sheet_lent}
 use Rattle.kept.proofs.Fits.{few_variables, certificate_fits}
 use Rattle.kept.proofs.Whole.{judge_asks, filled_in_lem, kept_is}

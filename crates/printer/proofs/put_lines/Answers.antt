@@ -1,5 +1,5 @@
 -- `put_lines` meets its contract: the nine lines, one after the other. Assumes nothing.
-use Rattle.stored_text.proofs.Storing.{then}
+use Rattle.printer.proofs.Storing.{then}
 use Rattle.printer.specs.Answer.{nine_lines}
 use Rattle.printer.proofs.put_lines.Goals as goal
 

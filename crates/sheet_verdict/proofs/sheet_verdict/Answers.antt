@@ -1,5 +1,5 @@
 -- `sheet_verdict` meets its contract: what is said of a sheet whose list was searched is said of the sheet with its records. Assumes nothing.
-use Rattle.added_row.specs.Lent.{lent_lists}
+use Rattle.certificate.specs.Lent.{lent_lists}
 use Rattle.kept.specs.Kept.{lent, sheet_lent}
 use Rattle.sheet_verdict.proofs.Same.{entry_says}
 use Rattle.sheet_verdict.proofs.sheet_verdict.Goals as goal

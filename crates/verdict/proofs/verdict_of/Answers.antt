@@ -3,10 +3,10 @@ use mathlib.Core.Path.{◌≡◌, refl, sym, subst}
 use lib.Dec.{T}
 use lib.Ieee.{lt}
 use Rattle.cdouble.specs.Compensated.{plus_zero}
-use Rattle.refusal_numbers.specs.Numbers.{number_of}
+use Rattle.sheet.specs.Numbers.{number_of}
 use Rattle.sheet.specs.declared.answers.Outputs.{Outputs}
 use Rattle.sheet.specs.Lent.{lent_sheet}
-use Rattle.sheet_answers.specs.Answers.{first_no}
+use Rattle.sheet.specs.Answers.{first_no}
 use Rattle.gaps.specs.Rows.{ranges_of, rows_of}
 use Rattle.gaps.specs.Steps.{outward_of}
 use Rattle.gaps.specs.ThirdDemand.{NoPoint}

@@ -1,5 +1,5 @@
 -- `add_row` meets its contract. Assumes nothing.
-use Rattle.row_questions.specs.Rows.{part}
+use Rattle.questions.specs.Rows.{part}
 use Rattle.certificate.proofs.Rows.{row_fits, errors_fit, sums_fit, row_added}
 use Rattle.certificate.proofs.combine.add_row.Goals as goal
 

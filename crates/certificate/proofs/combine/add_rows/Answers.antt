@@ -2,7 +2,7 @@
 use native.Mathlib.Omega.{arith}
 use Rattle.std.proofs.Common.{rules}
 use lib.Ieee.{of_bits}
-use Rattle.added_row.proofs.Slices.{same-then}
+use Rattle.certificate.proofs.Slices.{same-then}
 use Rattle.certificate.proofs.Rows.{first_row, row_goes_on, next_row}
 use Rattle.certificate.proofs.combine.add_rows.Goals as goal
 

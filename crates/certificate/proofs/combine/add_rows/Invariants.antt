@@ -1,8 +1,8 @@
 -- `add_rows` meets its contract. Assumes nothing.
 use Rattle.certificate.specs.System.{lent_system}
 use Rattle.certificate.specs.Certificate.{after_rows, certificate}
-use Rattle.added_row.specs.Added.{no_sums}
-use Rattle.added_row.specs.Lent.{SameSlices, lent_lists}
+use Rattle.certificate.specs.Added.{no_sums}
+use Rattle.certificate.specs.Lent.{SameSlices, lent_lists}
 use Rattle.exact.proofs.Turns.{Turn}
 use Rattle.certificate.proofs.combine.add_rows.Given as goal
 

@@ -1,7 +1,7 @@
 -- `edge` meets its contract. Assumes nothing.
 use mathlib.Core.Path.{ap}
 use mathlib.Core.Bool.{not}
-use Rattle.variable_bounds.specs.Model.{lent_model}
+use Rattle.edges.specs.Model.{lent_model}
 use Rattle.edges.proofs.Tests.{edge_infinite, edge_leaving, edge_on_bounds, edge_widened}
 use Rattle.edges.proofs.variables.edge.Goals as goal
 

@@ -1,5 +1,5 @@
 -- `outward_of` meets its contract. Assumes nothing.
-use Rattle.refusal_numbers.proofs.Numbers.{answered_err, answered_ok}
+use Rattle.sheet.proofs.RefusalNumbers.{answered_err, answered_ok}
 use Rattle.outward_sheet.specs.Answer.{outward_answer}
 use Rattle.outward_sheet.proofs.answer.outward_of.Goals as goal
 

@@ -4,10 +4,10 @@ use mathlib.Core.Bool.{not}
 use lib.Ieee.{of_bits}
 use Prim.Native.Nat.{◌+◌}
 use Rattle.questions.specs.Limits.{most_rows, most_structurals}
-use Rattle.variable_bounds.specs.Model.{lent_model}
+use Rattle.edges.specs.Model.{lent_model}
 use Rattle.certificate.specs.System.{lent_system, multiplier_at}
 use Rattle.gaps.specs.Rows.{ranges_in, rows_in}
-use Rattle.coefficients.proofs.Rows.{from_written}
+use Rattle.outward_sheet.proofs.Rows.{from_written}
 use Rattle.outward_sheet.proofs.Gap.{zeros_fit, walk_asks, largest_same, gap_infinite, gap_reckoned}
 use Rattle.outward_sheet.proofs.reckoning.outward_gap.Goals as goal
 

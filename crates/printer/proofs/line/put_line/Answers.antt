@@ -1,5 +1,5 @@
 -- `put_line` meets its contract: the opening, the value and the end, one after the other. Assumes nothing.
-use Rattle.stored_text.proofs.Storing.{then}
+use Rattle.printer.proofs.Storing.{then}
 use Rattle.printer.specs.Answer.{line}
 use Rattle.printer.proofs.line.put_line.Goals as goal
 

@@ -1,8 +1,8 @@
 -- `read_pairs` meets its contract. Assumes nothing.
 use Prim.Native.Nat.{◌≤◌, max}
 use Rattle.repeats.proofs.Chains.{ChainLeads, ChainCounts}
-use Rattle.text_words.specs.Words.{most_bytes}
-use Rattle.text_rows.specs.Lines.{no_pair, pair}
+use Rattle.text_items.specs.Words.{most_bytes}
+use Rattle.text_lines.specs.RowLines.{no_pair, pair}
 use Rattle.text_lists.specs.Lent.{SameRows, lent_rows, with_pairs}
 use Rattle.text_lists.specs.Rows.{after_pair}
 use Rattle.text_lists.proofs.Storing.{ChainLeft}

@@ -3,8 +3,8 @@ use native.Mathlib.Omega.{arith}
 use mathlib.Core.Path.{◌≡◌, sym, ◌∙◌}
 use mathlib.Core.Logic.{inl, inr}
 use Rattle.repeats.proofs.Chains.{Over, chain_leads_turn, chain_leads_end, chain_counts_turn, chain_counts_end}
-use Rattle.text_words.specs.Words.{most_bytes}
-use Rattle.text_sides.specs.Lines.{no_widened}
+use Rattle.text_items.specs.Words.{most_bytes}
+use Rattle.text_lines.specs.SidedLines.{no_widened}
 use Rattle.text_lists.proofs.Reaching.{widened_reached_lem}
 use Rattle.text_lists.proofs.Slices.{widened_then}
 use Rattle.text_lists.proofs.Storing.{chain_left_turn, chain_left_end, widened_store}

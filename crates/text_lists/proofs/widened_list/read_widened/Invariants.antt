@@ -1,7 +1,7 @@
 -- `read_widened` meets its contract. Assumes nothing.
 use Rattle.repeats.proofs.Chains.{ChainLeads, ChainCounts}
-use Rattle.text_words.specs.Words.{most_bytes}
-use Rattle.text_sides.specs.Lines.{no_widened, widened_line}
+use Rattle.text_items.specs.Words.{most_bytes}
+use Rattle.text_lines.specs.SidedLines.{no_widened, widened_line}
 use Rattle.text_lists.specs.Lent.{SameWidened, lent_widened}
 use Rattle.text_lists.specs.Widened.{after_widened}
 use Rattle.text_lists.proofs.Storing.{ChainLeft, widened_from}

@@ -1,7 +1,7 @@
 -- `walk_over` meets its contract. Assumes nothing.
 use Rattle.certificate.specs.Certificate.{certificate}
-use Rattle.added_row.specs.Lent.{lent_lists}
-use Rattle.variable_bounds.specs.Model.{lent_model}
+use Rattle.certificate.specs.Lent.{lent_lists}
+use Rattle.edges.specs.Model.{lent_model}
 use Rattle.walk.proofs.Turns.{Walking}
 use Rattle.walk.proofs.steps.walk_over.Given as goal
 

@@ -8,8 +8,8 @@ use lib.Ieee.{of_bits}
 use Rattle.cdouble.specs.Compensated.{plus_zero}
 use Rattle.questions.specs.Limits.{most_entries, most_rows, most_structurals}
 use Rattle.sheet_text.specs.Lent.{SheetLists}
-use Rattle.many_widened.specs.Fewest.{most_widened}
-use Rattle.front_verdict.specs.Fronts.{most_variables}
+use Rattle.widened_records.specs.Fewest.{most_widened}
+use Rattle.weigh_text.specs.Fronts.{most_variables}
 use Rattle.weigh_text.proofs.Reading.{Room, lists_have_room, lists-verdict, text_full, text_refused}
 use Rattle.weigh_text.proofs.text.text_verdict.Goals as goal
 

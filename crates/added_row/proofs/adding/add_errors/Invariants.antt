@@ -1,8 +1,0 @@
--- `add_errors` meets its contract. Assumes nothing.
-use lib.ListN.{length}
-use Rattle.added_row.specs.Added.{after_errors}
-use Rattle.exact.proofs.Turns.{Turn}
-use Rattle.added_row.proofs.adding.add_errors.Given as goal
-
-abbrev pub invariant-loop-v : goal.invariant-loop-v
-invariant-loop-v l = Turn (λ n. after_errors l.distance l.basic l.columns l.entries n l.initial.errors) (length l.columns) (length l.yielded) l.errors

@@ -1,0 +1,42 @@
+//! Sums, products and distances of doubles rounded up through the double-double.
+ghost use Rattle.std.specs.Prelude.{◌≡◌, ◌*ℤ◌, ◌+ℤ◌, ◌-ℤ◌};
+ghost use Rattle.exact.specs.Value.{exact};
+ghost use Rattle.doubles.specs.Directed.{IsUp};
+ghost use Rattle.cdouble.specs.Compensated.{add_up, distance_up, mul_up, upper};
+ghost use Rattle.cdouble.specs.Exactness.{abs_ℤ, ProductRange, SumRange};
+
+use crate::CDouble;
+use double_bits::next_up;
+
+// Kept: `directed` has a fast form of this that asks for a range, and `CDouble::rounded` adds first; this one asks nothing.
+/// The high part of `s`, or the next double up where the low part is above 0.
+#[tactic(auto, unfolding(crate::specs::Compensated::upper))]
+fn upper(s: CDouble) -> f64
+    ensures { result ≡ upper s }
+{
+    if s.lo > 0.0 { next_up(s.hi) } else { s.hi }
+}
+
+/// `a + b`, rounded up.
+#[tactic(auto, using(doubles::proofs::Tests::fit, crate::proofs::Consequences::add_up_least), unfolding(crate::specs::Compensated::add_up))]
+pub fn add_up(a: f64, b: f64) -> f64
+    ensures { (result ≡ add_up a b) × (SumRange a b → IsUp 0 (exact a +ℤ exact b) result) }
+{
+    upper(CDouble::two_sum(a, b))
+}
+
+/// `a · b`, rounded up where the product's error can be told; a tiny product may come out too small.
+#[tactic(auto, using(doubles::proofs::Tests::fit, crate::proofs::Consequences::mul_up_least), unfolding(crate::specs::Compensated::mul_up))]
+pub fn mul_up(a: f64, b: f64) -> f64
+    ensures { (result ≡ mul_up a b) × (ProductRange a b → IsUp 1074 (exact a *ℤ exact b) result) }
+{
+    upper(CDouble::two_product(a, b))
+}
+
+/// `|a - b|`, rounded up.
+#[tactic(auto, using(doubles::proofs::Tests::fit, crate::proofs::Consequences::distance_up_least), unfolding(crate::specs::Compensated::distance_up))]
+pub fn distance_up(a: f64, b: f64) -> f64
+    ensures { (result ≡ distance_up a b) × (SumRange a b → IsUp 0 (abs_ℤ (exact a -ℤ exact b)) result) }
+{
+    CDouble::two_sum(a, -b).abs_up()
+}

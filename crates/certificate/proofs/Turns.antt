@@ -1,0 +1,78 @@
+-- The loops over a row's entries, on lists. Assumes nothing.
+use native.Mathlib.Omega.{arith}
+use mathlib.Core.Path.{◌≡◌, refl, ap, sym, subst, ◌∙◌}
+use mathlib.Core.List.{List}
+use Prim.Native.Nat.{ℕ, ◌+◌, ◌<◌}
+use lib.ListN.{length, get_or}
+use lib.Ieee.{Float, nan}
+use Rattle.cdouble.specs.declared.CDouble.{CDouble}
+use Rattle.exact.proofs.Turns.{Turn, first, next}
+use Rattle.certificate.specs.Added.{Lists, with_term, after_terms, with_error, after_errors}
+use Rattle.certificate.specs.AddedReads.{TermFits, RowFits, ErrorsFit}
+use Rattle.certificate.proofs.AddedLengths.{Same, after_terms_same, after_terms_few, after_errors_same}
+
+-- ---- a kept row's entries
+module _ {count : ℕ} (y : CDouble) {columns : List ℕ} {entries : List Float} {l : Lists} (row : RowFits count columns entries l) where
+  abbrev Terms : ℕ → Lists → Type 0
+  Terms k c = Turn (λ (n : ℕ). after_terms y columns entries n l) (length columns) k c
+
+  pub first_term : Terms 0 l
+  unfolding after_terms
+  first_term = first (λ (n : ℕ). after_terms y columns entries n l) (length columns)
+
+  module _ {c : Lists} {k : ℕ} (turn : Terms k c) where
+    pub terms_same : Same l c
+    terms_same = subst (Same l) (sym turn.so_far) (after_terms_same y columns entries k l)
+
+    pub term_asks : {v : ℕ} → k < length columns → v ≡ get_or columns k 0 → TermFits v c
+    term_asks {v} less here =
+        let w : v < count = subst (λ (u : ℕ). u < count) (sym here) (row.within k less) in
+        let s = terms_same in
+        record {
+          in_high = omega (arith, s.high_same, row.long.in_high);
+          in_low = omega (arith, s.low_same, row.long.in_low);
+          in_magnitudes = omega (arith, s.magnitudes_same, row.long.in_magnitudes);
+          in_terms = omega (arith, s.terms_same, row.long.in_terms);
+          one_more =
+              omega (
+                arith,
+                ap (λ (x : Lists). get_or x.terms v 0) turn.so_far,
+                after_terms_few y columns entries k l v,
+                row.room v w,
+              );
+        }
+
+    pub next_term : {d : Lists} {v : ℕ} {a : Float} → k < length columns → v ≡ get_or columns k 0 → a ≡ get_or entries k nan → d ≡ with_term y v a c → Terms (k + 1) d
+    unfolding after_terms
+    next_term {a = a} less here at e =
+        next (with_term y (get_or columns k 0) (get_or entries k nan)) turn less refl
+        (e ∙ ap (λ (u : ℕ). with_term y u a c) here ∙ ap (λ (x : Float). with_term y (get_or columns k 0) x c) at)
+
+-- ---- a row's shares of an error
+module _ {count : ℕ} (distance : Float) {basic columns : List ℕ} {entries errors : List Float} (row : ErrorsFit count basic columns entries errors) where
+  abbrev Errors : ℕ → List Float → Type 0
+  Errors k e = Turn (λ (n : ℕ). after_errors distance basic columns entries n errors) (length columns) k e
+
+  pub first_error : Errors 0 errors
+  unfolding after_errors
+  first_error = first (λ (n : ℕ). after_errors distance basic columns entries n errors) (length columns)
+
+  module _ {e : List Float} {k : ℕ} (turn : Errors k e) where
+    pub errors_same : length e ≡ length errors
+    errors_same = ap length turn.so_far ∙ after_errors_same distance basic columns entries k errors
+
+    pub error_asks : {v : ℕ} → k < length columns → v ≡ get_or columns k 0 → (v < length basic) × (v < length e)
+    error_asks {v} less here =
+        let w : v < count = subst (λ (u : ℕ). u < count) (sym here) (row.within k less) in
+        (omega (arith, row.in_basic), omega (arith, row.in_errors, errors_same))
+
+    pub next_error : {f : List Float} {v : ℕ} {a : Float}
+        → k < length columns
+        → v ≡ get_or columns k 0
+        → a ≡ get_or entries k nan
+        → f ≡ with_error distance basic v a e
+        → Errors (k + 1) f
+    unfolding after_errors
+    next_error {a = a} less here at is =
+        next (with_error distance basic (get_or columns k 0) (get_or entries k nan)) turn less refl
+        (is ∙ ap (λ (u : ℕ). with_error distance basic u a e) here ∙ ap (λ (x : Float). with_error distance basic (get_or columns k 0) x e) at)

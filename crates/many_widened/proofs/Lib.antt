@@ -1,2 +1,0 @@
-pub mod ManyWidened
-pub mod Fewest

@@ -1,0 +1,69 @@
+//! The ninth question: the basis places are counted, each once for every variable that holds it.
+ghost use Rattle.std.specs.Prelude.{◌≡◌, ◌≤◌, length};
+ghost use Rattle.questions.specs.Limits.{most_rows};
+ghost use Rattle.questions.specs.Places.{all_below};
+ghost use Rattle.questions.specs.Tallies.{Countable, counted, one_at, Tally, tallied};
+ghost use Rattle.questions.specs.PlaceQuestions.{basis_fine, held_once_at, place_fine_at};
+
+use crate::MOST_ROWS;
+
+/// Whether no variable holds a place beyond the last row's.
+fn places_fine(rows: usize, basic: &[u8], places: &[usize]) -> bool
+    requires { length places.now ≡ length basic.now }
+    ensures { result ≡ all_below (length basic.now) (place_fine_at rows basic.now places.now) }
+{
+    basic
+        .iter()
+        .zip(places)
+        .all(|(flag, place)| (*flag == 0) | (*place < rows))
+}
+
+/// Counts one more at the place `p` where the flag is set.
+fn count(flag: u8, p: usize, counts: &mut [usize])
+    requires { Countable flag p counts.old }
+    ensures { counts.new ≡ counted flag p counts.old }
+{
+    if flag != 0 {
+        counts[p] += 1;
+    }
+}
+
+/// Counts the variables at each place.
+fn tally(rows: usize, basic: &[u8], places: &[usize], counts: &mut [usize])
+    requires { Tally rows basic.now places.now counts.old }
+    ensures { counts.new ≡ tallied basic.now places.now (length basic.now) counts.old }
+{
+    for (flag, place) in basic.iter().zip(places) {
+        count(*flag, *place, counts);
+    }
+}
+
+/// Whether each of the first `rows` counts is 1.
+fn all_one(rows: usize, counts: &[usize]) -> bool
+    requires { rows ≤ length counts.now }
+    ensures { result ≡ all_below rows (one_at counts.now) }
+{
+    counts[..rows].iter().all(|holders| *holders == 1)
+}
+
+/// Whether each place is held by one variable, counted in `counts`.
+fn held_once(rows: usize, basic: &[u8], places: &[usize], counts: &mut [usize]) -> bool
+    requires { Tally rows basic.now places.now counts.old }
+    ensures { result ≡ all_below rows (held_once_at basic.now places.now) }
+{
+    tally(rows, basic, places, counts);
+    all_one(rows, counts)
+}
+
+/// The ninth question.
+pub fn basis_fine(rows: usize, basic: &[u8], places: &[usize]) -> bool
+    requires { (rows ≤ most_rows) × (length places.now ≡ length basic.now) }
+    ensures { result ≡ basis_fine rows basic.now places.now }
+{
+    if !places_fine(rows, basic, places) {
+        return false;
+    }
+    // Kept: an array of the largest size, since there is no heap and the limits of a sheet are fixed.
+    let mut counts = [0; MOST_ROWS];
+    held_once(rows, basic, places, &mut counts)
+}

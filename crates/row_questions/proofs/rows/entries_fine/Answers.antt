@@ -1,8 +1,0 @@
--- `entries_fine` meets its contract. Assumes nothing.
-use mathlib.Core.Path.{refl}
-use Rattle.row_questions.specs.Questions.{entries_fine}
-use Rattle.row_questions.proofs.rows.entries_fine.Goals as goal
-
-pub returns : goal.returns
-unfolding entries_fine
-returns c = rw (c.all_finite.ensures, c.all_finite-2.ensures, c.slack_entries_fine.ensures) refl

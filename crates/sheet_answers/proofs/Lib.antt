@@ -1,3 +1,0 @@
-pub mod Ask
-pub mod Accepted
-pub mod Consequences

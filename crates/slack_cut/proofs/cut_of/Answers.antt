@@ -1,8 +1,0 @@
--- `cut_of` meets its contract. Assumes nothing.
-use lib.Ieee.{of_bits, mul}
-use Rattle.slack_cut.specs.Cut.{cut_of}
-use Rattle.slack_cut.proofs.cut_of.Goals as goal
-
-pub returns : goal.returns
-unfolding cut_of of_bits mul
-returns c = rw (c.min.ensures, c.implied_slack_error.ensures, c.min-slack.ensures, c.abs.ensures, c.abs-2.ensures, c.abs-3.ensures, c.slack_margin.ensures)

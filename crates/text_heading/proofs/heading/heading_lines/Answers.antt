@@ -1,7 +1,0 @@
--- `heading_lines` reads the first two lines. Assumes nothing.
-use Rattle.text_heading.specs.Lines.{heading}
-use Rattle.text_heading.proofs.heading.heading_lines.Goals as goal
-
-pub returns : goal.returns
-unfolding heading
-returns c = rw (c.double_last-feasibility.ensures, c.count_then-structurals.ensures, c.count_after-rows.ensures)

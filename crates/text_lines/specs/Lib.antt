@@ -1,0 +1,5 @@
+pub mod Heading
+pub mod VariableLines
+pub mod RowLines
+pub mod SidedLines
+pub mod MultiplierLines
