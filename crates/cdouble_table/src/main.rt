@@ -1,4 +1,4 @@
-// Runs the crates `cdouble` and `upward_rounding` on the table of standard input, which
+// Runs the crate `cdouble` on the table of standard input, which
 // tests/cdouble_table/generate.py writes, and says for each operation how many cases were run and how many differ from
 // the table.
 //

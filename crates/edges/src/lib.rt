@@ -1,4 +1,5 @@
-//! The edges of a variable: how far past its bounds the judgement lets it go.
+//! Where a variable stands and how far it may go: a row at the sheet's values, what kind a variable is, its bounds, tolerances
+//! and room, and its edges: how far past its bounds the judgement lets it go.
 
 #![tactic(auto)]
 

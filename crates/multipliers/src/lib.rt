@@ -1,4 +1,4 @@
-//! The multipliers that a row of the basis inverse suggests: which are kept.
+//! The multipliers that a row of the basis inverse suggests: whether their errors are bounded, and which are kept.
 
 #![tactic(auto)]
 

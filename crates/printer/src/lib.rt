@@ -1,4 +1,5 @@
-//! The printer of document 01's sheet: the nine lines of a verdict, or the one line of a refusal.
+//! The printer of document 01's sheet: digits and lines put into a slice, and the nine lines of a verdict or the one line of a
+//! refusal.
 
 #![tactic(auto)]
 

@@ -1,5 +1,5 @@
 // Keeps two running sums of the pairs of doubles on standard input, the sum of all `a` and the sum of all `a · b`, each as a
-// double-double that is lent to the functions of `lent_sums`, and writes both at the end.
+// double-double that is lent to `cdouble_add` or `cdouble_add_scaled`, and writes both at the end.
 //
 // A line is two numbers with a space between them, each the 16 digits of a double's bit pattern. A line of any other form is
 // written as it is, and adds nothing.

@@ -1,4 +1,4 @@
-//! The sheet that the counter lends, and the questions of its sizes and lengths.
+//! The sheet that the counter lends, the questions of its sizes and lengths, and all questions in document 01's order.
 
 #![tactic(auto)]
 

@@ -24,7 +24,7 @@ use Rattle.widened_records.specs.Listed.{found_ups, found_variables}
 use Rattle.widened_records.specs.Fewest.{most_widened}
 use Rattle.widened_records.proofs.Counts.{count_few}
 use Rattle.widened_records.proofs.Front.{front_fine, front_whole}
-use Rattle.widened_records.proofs.Listed.{listed_fine, listed_held, listed_sided, records_sided}
+use Rattle.widened_records.proofs.ListedMarks.{listed_fine, listed_held, listed_sided, records_sided}
 use Rattle.same_widened.specs.Interchangeable.{Interchangeable, has_size, with_widened}
 use Rattle.same_widened.proofs.SameWidened.{same_after, same_declined, same_verdict}
 use Rattle.sheet_verdict.specs.FoundSheet.{with_found}

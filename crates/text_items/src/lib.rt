@@ -1,4 +1,5 @@
-//! A number of the sheet and the word after it: both are read at a position of a text, and the answer has the position after them.
+//! The items of a sheet's text: words, numbers, a number and the word after it. Each is read at a position of a text, and the
+//! answer has the position after it.
 
 #![tactic(auto)]
 

@@ -1,5 +1,5 @@
-//! The lists behind the variables of a sheet, read into lent slices: the rows with their pairs, the widened lines, and the
-//! multipliers. A slice shorter than its list holds the front of it.
+//! The lists of lines, read into lent slices: the variables, the rows with their pairs, the widened lines, and the multipliers.
+//! A slice shorter than its list holds the front of it.
 
 #![tactic(auto)]
 

@@ -1,5 +1,5 @@
-//! The tolerances that the certificate rests on, as the Rust has them. Every function takes every number and asks nothing of its
-//! caller.
+//! The tolerances that the certificate rests on, and the bound that a tolerance moves, as the Rust has them. Every function takes
+//! every number and asks nothing of its caller.
 
 #![tactic(auto)]
 

@@ -16,7 +16,7 @@ use Rattle.widened_records.specs.declared.Widened.{Widened}
 use Rattle.widened_records.specs.Records.{count_of, ups_of, variables_of}
 use Rattle.widened_records.specs.Found.{found_in}
 use Rattle.widened_records.proofs.Counts.{count_few}
-use Rattle.widened_records.proofs.Listed.{records_sided}
+use Rattle.widened_records.proofs.ListedMarks.{records_sided}
 use Rattle.widened_records.proofs.Marked.{Marks, marks_say, some_says}
 
 module _ (count : ℕ) (list : List Widened) (few : count ≤ most_structurals + most_rows) where

@@ -9,7 +9,7 @@ use lib.Seq.{sets, sets-eq, take-append_seam}
 use Rattle.questions.specs.Limits.{most_rows, most_structurals}
 use Rattle.std.specs.Prelude.{Option, None, Some}
 use Rattle.widened_records.specs.Listed.{found_variables, found_ups}
-use Rattle.widened_records.proofs.Listed.{listed_sided}
+use Rattle.widened_records.proofs.ListedMarks.{listed_sided}
 use Rattle.widened_records.specs.Items.{marked}
 use Rattle.widened_records.proofs.Items.{marked_few}
 

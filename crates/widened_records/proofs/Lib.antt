@@ -1,6 +1,6 @@
 pub mod Counts
 pub mod Marked
-pub mod Listed
+pub mod ListedMarks
 pub mod Front
 pub mod Searched
 pub mod ManyWidened

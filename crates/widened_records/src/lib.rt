@@ -1,5 +1,6 @@
 //! The widened list as records of a variable and a side, and the search of it: one function goes through the list, once, for
-//! every variable and side at a time.
+//! every variable and side at a time, as far as the longest list without an item amiss; another writes what was found as two
+//! lists.
 
 #![tactic(auto)]
 
@@ -41,7 +42,7 @@ pub fn variable_count(rows: usize, structurals: usize) -> usize
     }
 }
 
-// Kept: `place_questions` marks the items of two lists so, and keeps no marks; one function of both would take an iterator with its laws, for five lines less.
+// Kept: `questions` marks the items of two lists so, and keeps no marks; one function of both would take an iterator with its laws, for five lines less.
 /// Sets an item's mark, and answers whether the item is new: it names one of `count` variables, and its mark was not set.
 #[tactic(auto, unfolding(crate::specs::Found::noted_in))]
 fn noted(w: Widened, count: usize, marks: &mut [bool; MARKS]) -> bool
