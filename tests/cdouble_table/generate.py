@@ -1,5 +1,5 @@
 #!/usr/bin/env python3
-"""Writes the table of cases that the program cdouble_table runs the crates cdouble and upward_rounding on.
+"""Writes the table of cases that the program cdouble_table runs the crate cdouble on.
 
     generate.py              write the table to standard output
     generate.py --check F    exit 1 where the file F is not that table

@@ -1,4 +1,4 @@
-//! Holds the table's answers to the Rust that the crates cdouble and upward_rounding follow, bit for bit, a NaN counted
+//! Holds the table's answers to the Rust that the crate cdouble follows, bit for bit, a NaN counted
 //! as one. The script compare cuts that Rust out of its document, and says by CUT where it put it.
 #![allow(dead_code)]
 
