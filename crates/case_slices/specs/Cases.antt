@@ -1,5 +1,5 @@
 -- The sheet of a case: its numbers, and the fronts of its slices. Assumes nothing.
-use Rattle.std.specs.Prelude.{ℕ, List, [], ◌∷◌, ◌+◌, ◌%◌, ◌^◌, ◌-◌, cond, eqb, min, take, get_or}
+use Rattle.std.specs.Prelude.{ℕ, List, [], ◌∷◌, ◌+◌, ◌%◌, ◌^◌, ◌-◌, cond, eqb, min, take, set, get_or}
 use Rattle.std.specs.Float.{binary64}
 use Rattle.std.specs.Float.Ieee.{of_bits}
 use Rattle.sheet.specs.declared.answers.Outputs.{Outputs}
@@ -22,6 +22,34 @@ with_number n place value =
       checked = cond (eqb place 4) (value % 256) n.checked;
       leaving_row = cond (eqb place 5) value n.leaving_row;
       leaving_up = cond (eqb place 6) (value % 256) n.leaving_up;
+    }
+
+-- a list with a value put at a place, where the slice is this one
+abbrev pub put_if : {A : Type 0} → Slice → Slice → ℕ → A → List A → List A
+put_if slice this place value xs = cond (eqb (number_of slice) (number_of this)) (set xs place value) xs
+
+-- the slices with a value put at a place of one of them, a double as its pattern, a flag as its last eight bits
+abbrev pub with_value : Slices → Slice → ℕ → ℕ → Slices
+with_value s slice place value =
+    record {
+      starts = put_if slice Starts place value s.starts;
+      columns = put_if slice Columns place value s.columns;
+      entries = put_if slice Entries place (of_bits binary64 value) s.entries;
+      right_sides = put_if slice RightSides place (of_bits binary64 value) s.right_sides;
+      scales = put_if slice Scales place (of_bits binary64 value) s.scales;
+      integer = put_if slice Integer place (value % 256) s.integer;
+      mins = put_if slice Mins place (of_bits binary64 value) s.mins;
+      maxs = put_if slice Maxs place (of_bits binary64 value) s.maxs;
+      low_tolerances = put_if slice LowTolerances place (of_bits binary64 value) s.low_tolerances;
+      high_tolerances = put_if slice HighTolerances place (of_bits binary64 value) s.high_tolerances;
+      basic = put_if slice Basic place (value % 256) s.basic;
+      places = put_if slice Places place value s.places;
+      values = put_if slice Values place (of_bits binary64 value) s.values;
+      widened_vars = put_if slice WidenedVars place value s.widened_vars;
+      widened_ups = put_if slice WidenedUps place (value % 256) s.widened_ups;
+      rho_hi = put_if slice RhoHi place (of_bits binary64 value) s.rho_hi;
+      rho_lo = put_if slice RhoLo place (of_bits binary64 value) s.rho_lo;
+      second = put_if slice Second place (of_bits binary64 value) s.second;
     }
 
 -- a sum, no more than a `usize` holds

@@ -4,7 +4,7 @@
 
 ghost use Rattle.std.specs.Prelude.{◌≡◌, ◌%◌, ◌≤◌, length, take, nat_lt, set, MatchOption};
 ghost use Rattle.case_slices.specs.Slices.{alike, number_of, room};
-ghost use Rattle.case_slices.specs.Cases.{lengths, lent, with_number};
+ghost use Rattle.case_slices.specs.Cases.{lengths, lent, with_number, with_value};
 ghost use Rattle.sheet.specs.Lent.{lent_sheet};
 ghost use Rattle.sheet.specs.declared.answers.Outputs.{Outputs};
 
@@ -193,7 +193,8 @@ impl Slices {
 
     /// Puts a value at a place of a slice, a number, a flag or a double's pattern, and answers whether there is room.
     pub fn put(&mut self, slice: Slice, place: usize, value: usize) -> bool
-        ensures { result ≡ nat_lt place (room slice) }
+        ensures room { result ≡ nat_lt place (room slice) }
+        ensures slices { self.new ≡ with_value self.old slice place value }
     {
         let flag = byte(value);
         let real = double_of(value as u64);
