@@ -6,7 +6,7 @@
     generate.py --check F G    exit 1 where the file F is not those lines, or G not that answer
 
 A line is two doubles a and b, each as the 16 hexadecimal digits of its bit pattern. The answer is the sum of all a and the
-sum of all a b, each a pair hi, lo. One line has not that form: the program writes it as it is, and it adds nothing.
+sum of all a b, each a pair hi, lo. Three lines have not that form: the program writes them as they are, and they add nothing.
 
 Nearly every pair comes a second time, with the sign of a turned and some last digits changed, so that most of each sum
 cancels, and what rounding leaves out on the way is as large as what remains. The answers are those of the machine's
@@ -44,8 +44,9 @@ def pairs():
     return firsts + rest + seconds
 
 
-# a line of another form, since its first number has small letters, and how many lines stand before it
-OTHER = '3ff0000000000000 3FF0000000000000\n'
+# lines of another form: small letters in the first number, no space between the numbers, no end behind them; and how many
+# lines stand before them
+OTHERS = ['3ff0000000000000 3FF0000000000000\n', '3FF0000000000000,3FF0000000000000\n', '3FF0000000000000 3FF0000000000000.']
 PLACE = 100
 
 
@@ -55,7 +56,7 @@ def spelled(a, b):
 
 def lines():
     written = [spelled(a, b) for a, b in pairs()]
-    return written[:PLACE] + [OTHER] + written[PLACE:]
+    return written[:PLACE] + OTHERS + written[PLACE:]
 
 
 # ---- the answer
@@ -76,7 +77,7 @@ def answer():
         sum_pair, dot_pair = add(*sum_pair, a), add_scaled(*dot_pair, a, 0.0, b)
         plain_sum, plain_dot = plain_sum + a, plain_dot + a * b
         exact_sum, exact_dot = exact_sum + Fraction(a), exact_dot + Fraction(a) * Fraction(b)
-    yield 'not two doubles: ' + OTHER
+    yield from ('not two doubles: ' + other for other in OTHERS)
     yield held('sum', sum_pair, plain_sum, exact_sum)
     yield held('dot', dot_pair, plain_dot, exact_dot)
 
