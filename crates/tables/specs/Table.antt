@@ -1,5 +1,5 @@
 -- The numbers of a table, as its bytes spell them, and tallies of its cases. Assumes nothing.
-use Rattle.std.specs.Prelude.{ℕ, zero, suc, ◌≡◌, ◌+◌, ◌*◌, ◌<◌, min, List, ◌++◌, length, Bool, cond, get_or, set, Option, Some, Result, Ok}
+use Rattle.std.specs.Prelude.{ℕ, zero, suc, ◌≡◌, ◌+◌, ◌*◌, ◌<◌, eqb, min, List, ◌++◌, length, Bool, true, ◌&&◌, cond, get_or, set, Option, Some, is_some, Result, Ok}
 use denote.Ref.{Bor}
 use Rattle.std.specs.Option.{option_and_then}
 use Rattle.std.specs.Fn.{Mut, CalledAt}
@@ -12,6 +12,15 @@ use Rattle.tables.specs.declared.tally.Tally.{Tally}
 unfoldable pub digits : List ℕ → ℕ → ℕ → ℕ → Option ℕ
 digits s zero v at = Some v
 digits s (suc left) v at = option_and_then (λ d. digits s left (v * 16 + d) (at + 1)) (digit_of (get_or s at 0))
+
+-- whether a line has a space and then a number at each of the first n places
+unfoldable pub spelled : List ℕ → ℕ → Bool
+spelled s zero = true
+spelled s (suc n) = spelled s n && (eqb (get_or s (1 + 17 * n) 0) 32 && is_some (digits s 16 0 (2 + 17 * n)))
+
+-- and, after n of them, its end
+abbrev pub is_line : List ℕ → ℕ → Bool
+is_line s n = spelled s n && eqb (get_or s (1 + 17 * n) 0) 10
 
 -- one case more, up to the largest count
 abbrev pub one_more : Bool → Tally → Tally

@@ -3,10 +3,10 @@
 
 #![tactic(auto)]
 
-ghost use Rattle.std.specs.Prelude.{◌≡◌, ℕ, ◌+◌, ◌-◌, ◌*◌, ◌^◌, ◌<◌, ◌≤◌, get_or, length, take, IfOk, IfSome};
+ghost use Rattle.std.specs.Prelude.{◌≡◌, ℕ, ◌+◌, ◌-◌, ◌*◌, ◌^◌, ◌<◌, ◌≤◌, get_or, length, take, is_some, IfOk, IfSome};
 ghost use Rattle.std.specs.Io.{ReadsAtMost};
 ghost use Rattle.std.specs.Io.KnownBytes.{Consumes, IsAtEnd};
-ghost use Rattle.tables.specs.Table.{digits, RunsLines};
+ghost use Rattle.tables.specs.Table.{digits, is_line, RunsLines};
 
 use hex_digits::digit_of;
 pub use hex_digits::{bits_of, double_of};
@@ -78,9 +78,11 @@ pub fn number(s: &[u8], at: usize) -> Option<u64>
 }
 
 /// The numbers of a line, which has a letter, `N` numbers, each after a space, and its end.
+#[tactic(auto, using(crate::proofs::Spelled::no_space, crate::proofs::Spelled::no_number), unfolding(crate::specs::Table::spelled))]
 pub fn numbers<const N: usize>(line: &[u8]) -> Option<[u64; N]>
     requires { N ≤ 4096 }
-    ensures { IfSome result (λ found. (k : ℕ) → k < N → digits line.now 16 0 (2 + 17 * k) ≡ Some (get_or found k 0)) }
+    ensures form { is_some result ≡ is_line line.now N }
+    ensures numbers { IfSome result (λ found. (k : ℕ) → k < N → digits line.now 16 0 (2 + 17 * k) ≡ Some (get_or found k 0)) }
 {
     let mut found = [0u64; N];
     for (i, place) in found.iter_mut().enumerate() {
