@@ -1,6 +1,7 @@
 -- What the functions' proofs share: a law of a definition holds of a result that is equal to it, and the ways of the tests. Assumes nothing.
 use Rattle.std.proofs.Common.{◌≡◌, Bool, true, false, cond, not, pos, sym, refl, ap, ◌∙◌, subst, true≢false}
 use lib.Ieee.{Float, fin, binary64, lt, mul, round, units, of_bits, of_fields, odd, size}
+use Rattle.std.proofs.lemmas.Float.{one_f64_is}
 use lib.Count.{count_trailing_zeros}
 use Rattle.doubles.specs.Neighbours.{next_up, next_down}
 use Rattle.cdouble.specs.declared.CDouble.{CDouble}
@@ -47,3 +48,6 @@ eight_is = refl
 pub unit_error_lem : unit_error ≡ of_bits binary64 0x39B0_0000_0000_0000
 unfolding mul round of_bits of_fields odd count_trailing_zeros size units
 unit_error_lem = refl
+
+-- the literals of `compensated_error`
+pub ruleset literals = (unit_error_lem, two_is, eight_is, one_f64_is)

@@ -94,7 +94,7 @@ rounded c up = cond up (upper (normalized c)) (lower (normalized c))
 unfoldable pub abs_up : CDouble → Float
 abs_up c = rounded (cond (lt (value c) plus_zero) (negated c) c) true
 
--- `add_up`
+-- `add_up`: of magnitudes at most 2^1022 the least double not below the sum; beyond, what the Rust answers
 unfoldable pub add_up : Float → Float → Float
 add_up a b = upper (two_sum a b)
 
@@ -102,7 +102,7 @@ add_up a b = upper (two_sum a b)
 unfoldable pub mul_up : Float → Float → Float
 mul_up a b = upper (two_product a b)
 
--- `distance_up`
+-- `distance_up`: of magnitudes at most 2^1022 the least double not below the distance; beyond, what the Rust answers
 unfoldable pub distance_up : Float → Float → Float
 distance_up a b = abs_up (two_sum a (neg b))
 

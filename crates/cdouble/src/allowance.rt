@@ -8,7 +8,7 @@ use std::num::nearest_u64_to_f64;
 
 /// The allowance for the round-off of compensated sums of `terms` terms in all, the longest of `longest` terms, over terms
 /// of `magnitude` in all.
-#[tactic(auto, using(crate::proofs::Contracts::unit_error_lem, crate::proofs::Contracts::two_is, crate::proofs::Contracts::eight_is, std::proofs::lemmas::Float::one_f64_is), unfolding(crate::specs::Compensated::compensated_error))]
+#[tactic(auto, using(crate::proofs::Contracts::literals), unfolding(crate::specs::Compensated::compensated_error))]
 pub fn compensated_error(terms: usize, longest: usize, magnitude: f64) -> f64
     ensures { result ≡ compensated_error terms longest magnitude }
 {

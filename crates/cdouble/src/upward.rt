@@ -17,7 +17,7 @@ fn upper(s: CDouble) -> f64
     if s.lo > 0.0 { next_up(s.hi) } else { s.hi }
 }
 
-/// `a + b`, rounded up.
+/// `a + b`, rounded up where both magnitudes are at most 2^1022.
 #[tactic(auto, using(doubles::proofs::Tests::fit, crate::proofs::Consequences::add_up_least), unfolding(crate::specs::Compensated::add_up))]
 pub fn add_up(a: f64, b: f64) -> f64
     ensures { (result ≡ add_up a b) × (SumRange a b → IsUp 0 (exact a +ℤ exact b) result) }
@@ -33,7 +33,7 @@ pub fn mul_up(a: f64, b: f64) -> f64
     upper(CDouble::two_product(a, b))
 }
 
-/// `|a - b|`, rounded up.
+/// `|a - b|`, rounded up where both magnitudes are at most 2^1022.
 #[tactic(auto, using(doubles::proofs::Tests::fit, crate::proofs::Consequences::distance_up_least), unfolding(crate::specs::Compensated::distance_up))]
 pub fn distance_up(a: f64, b: f64) -> f64
     ensures { (result ≡ distance_up a b) × (SumRange a b → IsUp 0 (abs_ℤ (exact a -ℤ exact b)) result) }

@@ -31,8 +31,7 @@ fn mentioned(vars: &[usize], v: usize) -> bool
 #[tactic(auto, using(crate::proofs::Pairs::slack_room_is))]
 fn rooms(s: &Sheet, v: usize) -> Sides
     requires { Readable (lent_model s.now) v }
-    ensures low { result.low ≡ widening_room (lent_model s.now) v false }
-    ensures high { result.high ≡ widening_room (lent_model s.now) v true }
+    ensures { (let m = lent_model s.now in (result.low ≡ widening_room m v false) × (result.high ≡ widening_room m v true)) }
 {
     if mentioned(s.widened_variables, v) {
         return Sides {
@@ -68,8 +67,7 @@ fn moved(bound: f64, room: f64, up: bool) -> f64
 #[tactic(auto, using(crate::proofs::Pairs::held_edge, crate::proofs::Pairs::moved_edge))]
 pub fn both_edges(s: &Sheet, leaving: usize, v: usize) -> Sides
     requires { Readable (lent_model s.now) v }
-    ensures low { result.low ≡ edge (lent_model s.now) leaving v false }
-    ensures high { result.high ≡ edge (lent_model s.now) leaving v true }
+    ensures { (let m = lent_model s.now in (result.low ≡ edge m leaving v false) × (result.high ≡ edge m leaving v true)) }
 {
     if v == leaving {
         return Sides {

@@ -17,3 +17,5 @@ pub mod NoPoint
 pub mod Agreement
 pub mod Narrowing
 pub mod ThirdDemand
+pub mod Wider
+pub mod KeptParts

@@ -11,7 +11,8 @@ use Rattle.cdouble.specs.Compensated.{plus_zero}
 use Rattle.questions.specs.Places.{all_below}
 use Rattle.multipliers.specs.declared.weighing.Multiplier.{Multiplier}
 use Rattle.multipliers.specs.declared.weighing.Multiplier.TheVariants.{Zeroed, Dropped, Kept}
-use Rattle.gaps.specs.Rows.{Rows, Ranges, KeptRows, finite_parts}
+use Rattle.sheet.specs.Sheet.{Sheet}
+use Rattle.gaps.specs.Rows.{Rows, Ranges, KeptRows, finite_parts, rows_of, ranges_of, kept_of}
 use Rattle.gaps.specs.Points.{Point, in_units}
 
 -- "A kept multiplier counts as hi + lo, exactly"; a row that is not kept counts for nothing
@@ -58,3 +59,7 @@ less_largest b (some z) = some (in_units b -ℤ z)
 unfoldable pub exact_gap : KeptRows → Rows → Ranges → Option ℤ
 exact_gap kept m g =
     cond (all_below m.count (λ r. finite_parts (kept r))) (less_largest (combined_right_side kept m) (largest_value kept m g)) none
+
+-- that of a sheet
+abbrev pub exact_of : Sheet → Option ℤ
+exact_of s = exact_gap (kept_of s) (rows_of s) (ranges_of s)

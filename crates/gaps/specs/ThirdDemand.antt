@@ -1,7 +1,7 @@
 -- The third demand, and what it rests on, of any set of kept rows: document 01, "The words of the third demand". Assumes nothing.
 -- proofs/ThirdDemand.antt has each for every accepted sheet and every set of kept rows.
-use Rattle.std.specs.Prelude.{◌≡◌, ℕ, ◌<◌, T, ℤ, pos, ◌*ℤ◌}
-use Rattle.std.proofs.Math.Option.{some}
+use Rattle.std.specs.Prelude.{◌≡◌, ℕ, ◌<◌, T, ℤ, pos, ◌*ℤ◌, Float}
+use Rattle.std.proofs.Math.Option.{Option, some}
 use Rattle.std.specs.Float.Ieee.{lt, le}
 use Rattle.std.specs.Float.Ieee.Scale.{finite}
 use Rattle.exact.specs.Value.{exact_at}
@@ -26,9 +26,12 @@ MissesAtLeast kept m g =
     (z : ℤ) → exact_gap kept m g ≡ some z → (p : Point) → Lies g m.variables p
     → z *ℤ pos p.denominator ≼ in_units (Σ< m.count (λ r. multiplier (kept r) *ℤ missed m p r))
 
--- "A finite outward gap is never above the exact gap", both in units of 2 ^ -3222: there is one then
+-- "a finite outward gap has an exact gap and is not above it", both in units of 2 ^ -3222
+abbrev pub NotAbove : Float → Option ℤ → Type 0
+NotAbove outward gap = T (finite outward) → (z : ℤ) × (gap ≡ some z) × (exact_at 2148 outward ≼ z)
+
 abbrev pub NeverAbove : KeptRows → Rows → Ranges → Type 0
-NeverAbove kept m g = T (finite (outward_gap kept m g)) → (z : ℤ) × (exact_gap kept m g ≡ some z) × (exact_at 2148 (outward_gap kept m g) ≼ z)
+NeverAbove kept m g = NotAbove (outward_gap kept m g) (exact_gap kept m g)
 
 -- no point lies in the ranges and meets every row exactly
 abbrev pub NoPoint : Rows → Ranges → Type 0

@@ -1,9 +1,10 @@
 -- The kept numbers of a sheet, and what is lent afterwards: document 01, "Kept, and written anew" and "Questions put to the input".
 -- Assumes nothing.
-use Rattle.std.specs.Prelude.{cond, List, ℕ, eqb, length, Float}
+use Rattle.std.specs.Prelude.{cond, List, ℕ, eqb, length, Float, Result}
 use Rattle.sheet.specs.declared.answers.Outputs.{Outputs}
 use Rattle.sheet.specs.declared.lent.Sheet.{Sheet as SheetSlices}
 use Rattle.sheet.specs.Sheet.{Sheet, Sizes, variables}
+use Rattle.sheet.specs.Numbers.{answered}
 use Rattle.sheet.specs.Lent.{lent_sheet}
 use Rattle.sheet.specs.Answers.{first_no}
 use Rattle.edges.specs.Model.{model_of}
@@ -23,6 +24,10 @@ certificate_of s = combined (system_of s) s.rows (variables s)
 -- `proof_of`: "Reference answer: `Solver::proof_of`, with the lists and row count of the `certificate` it builds"
 unfoldable pub proof_of : Sheet → Proof
 proof_of s = judgement (model_of s) (leaving_variable s) (system_of s).estimated (variables s) (certificate_of s)
+
+-- "the first "no" gives its number"; else the kept numbers
+abbrev pub kept_answer : Sheet → Result Proof ℕ
+kept_answer s = answered (first_no s) (proof_of s)
 
 -- ---- what is lent to be written
 pub record Lent : Type 0 where

@@ -4,10 +4,10 @@
 #![tactic(auto)]
 
 ghost use Rattle.std.specs.Prelude.{◌≡◌};
-ghost use Rattle.sheet.specs.Numbers.{answered, numbered};
-ghost use Rattle.sheet.specs.Answers.{Accepted, first_no};
+ghost use Rattle.sheet.specs.Numbers.{numbered};
+ghost use Rattle.sheet.specs.Answers.{Accepted};
 ghost use Rattle.certificate.specs.Lent.{SameSlices, lent_lists};
-ghost use Rattle.kept.specs.Kept.{after, filled_in, lent, outputs, proof_of, sheet_lent};
+ghost use Rattle.kept.specs.Kept.{after, filled_in, kept_answer, lent, outputs, proof_of, sheet_lent};
 
 use certificate::{Lists, certificate};
 use edges::leaving_variable;
@@ -31,8 +31,8 @@ pub fn outputs_of(l: &Lists, errors: &[f64]) -> Outputs
 /// The kept numbers of an accepted sheet, the certificate's lists written to what is lent for them.
 pub fn weighed(s: &Sheet, l: &mut Lists, errors: &mut [f64]) -> Proof
     requires { Accepted (sheet_lent s.now l.old errors.old) }
-    ensures value { result ≡ proof_of (sheet_lent s.now l.old errors.old) }
-    ensures lent_after { lent (lent_lists l.new) errors.new ≡ filled_in (sheet_lent s.now l.old errors.old) (lent (lent_lists l.old) errors.old) }
+    ensures promised { (let whole = sheet_lent s.now l.old errors.old in
+        (result ≡ proof_of whole) × (lent (lent_lists l.new) errors.new ≡ filled_in whole (lent (lent_lists l.old) errors.old))) }
     ensures same_slices { SameSlices l.old l.new }
 {
     let count = s.structurals + s.rows;
@@ -44,8 +44,8 @@ pub fn weighed(s: &Sheet, l: &mut Lists, errors: &mut [f64]) -> Proof
 
 /// The questions, and the kept numbers of a sheet that passes them.
 pub fn proof_of(s: &Sheet, l: &mut Lists, errors: &mut [f64]) -> Result<Proof, Refusal>
-    ensures value { numbered result ≡ answered (first_no (sheet_lent s.now l.old errors.old)) (proof_of (sheet_lent s.now l.old errors.old)) }
-    ensures lent_after { lent (lent_lists l.new) errors.new ≡ after (sheet_lent s.now l.old errors.old) (lent (lent_lists l.old) errors.old) }
+    ensures promised { (let whole = sheet_lent s.now l.old errors.old in
+        (numbered result ≡ kept_answer whole) × (lent (lent_lists l.new) errors.new ≡ after whole (lent (lent_lists l.old) errors.old))) }
     ensures same_slices { SameSlices l.old l.new }
 {
     first_no(s, outputs_of(l, errors))?;

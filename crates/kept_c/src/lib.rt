@@ -98,13 +98,12 @@ pub extern "C" fn proof_of(
     rho_lo: &[f64],
     second: &[f64],
 ) -> Kept
-    ensures value { result ≡ answer (sheet (sizes rows structurals entry_count) feasibility checked leaving_row leaving_up (outputs (lists high.old low.old
-        magnitudes.old terms.old) errors.old) starts.now columns.now entries.now right_sides.now scales.now integer.now mins.now maxs.now
-        low_tolerances.now high_tolerances.now basic.now places.now values.now widened_vars.now widened_ups.now rho_hi.now rho_lo.now second.now) }
-    ensures lent_after { lent (lists high.new low.new magnitudes.new terms.new) errors.new ≡ after (sheet (sizes rows structurals entry_count) feasibility checked
-        leaving_row leaving_up (outputs (lists high.old low.old magnitudes.old terms.old) errors.old) starts.now columns.now entries.now
-        right_sides.now scales.now integer.now mins.now maxs.now low_tolerances.now high_tolerances.now basic.now places.now values.now
-        widened_vars.now widened_ups.now rho_hi.now rho_lo.now second.now) (lent (lists high.old low.old magnitudes.old terms.old) errors.old) }
+    ensures promised { (let certificate = lists high.old low.old magnitudes.old terms.old in
+        let whole = sheet (sizes rows structurals entry_count) feasibility checked leaving_row leaving_up (outputs certificate errors.old)
+        starts.now columns.now entries.now right_sides.now scales.now integer.now mins.now maxs.now low_tolerances.now high_tolerances.now
+        basic.now places.now values.now widened_vars.now widened_ups.now rho_hi.now rho_lo.now second.now in
+        (result ≡ answer whole)
+        × (lent (lists high.new low.new magnitudes.new terms.new) errors.new ≡ after whole (lent certificate errors.old))) }
 {
     let s = Sheet {
         rows,

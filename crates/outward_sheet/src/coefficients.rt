@@ -109,9 +109,9 @@ pub fn add_rows(
     upper: &mut [f64],
 ) -> f64
     requires { RowsFit (lent_system s.now estimated) s.now.rows count lower.old upper.old }
-    ensures value { result ≡ right_side (multiplier_at (lent_system s.now estimated)) (rows_in (lent_system s.now estimated) s.now.rows count) s.now.rows }
-    ensures lower_after { lower.new ≡ ends_over sum_down product_down (lent_system s.now estimated) s.now.rows count lower.old }
-    ensures upper_after { upper.new ≡ ends_over sum_up product_up (lent_system s.now estimated) s.now.rows count upper.old }
+    ensures { (let m = lent_system s.now estimated in
+        (result ≡ right_side (multiplier_at m) (rows_in m s.now.rows count) s.now.rows)
+        × ((lower.new ≡ ends_over sum_down product_down m s.now.rows count lower.old) × (upper.new ≡ ends_over sum_up product_up m s.now.rows count upper.old))) }
 {
     let mut sum = 0.0;
     // Kept: `r` goes to several lists of the sheet at once.

@@ -51,7 +51,8 @@ fn difference(b: f64, m: f64) -> f64
 /// The outward gap of the sheet's rows over its first `count` variables.
 pub fn outward_gap(s: &Sheet, count: usize, estimated: bool, leaving: usize) -> f64
     requires { OutwardFits (lent_system s.now estimated) (lent_model s.now) s.now.rows count }
-    ensures { result ≡ outward_gap (multiplier_at (lent_system s.now estimated)) (rows_in (lent_system s.now estimated) s.now.rows count) (ranges_in (lent_model s.now) leaving) }
+    ensures { (let m = lent_system s.now estimated in
+        result ≡ outward_gap (multiplier_at m) (rows_in m s.now.rows count) (ranges_in (lent_model s.now) leaving)) }
 {
     if !all_finite_parts(s, estimated) {
         return f64::NEG_INFINITY;

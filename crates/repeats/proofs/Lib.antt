@@ -3,3 +3,4 @@ pub mod Runs
 pub mod Gathers
 pub mod Chains
 pub mod Fronts
+pub mod Each

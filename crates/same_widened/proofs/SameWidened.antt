@@ -4,16 +4,13 @@ use mathlib.Core.Path.{◌≡◌, refl, ap, sym, subst, ◌∙◌}
 use mathlib.Core.Bool.{Bool, true, false, cond}
 use mathlib.Core.List.{List}
 use Prim.Native.Nat.{ℕ, zero, suc}
-use lib.Dec.{T, eqb}
+use lib.Dec.{eqb}
 use lib.ListN.{length}
 use lib.Ieee.{lt}
 use borrow.Author.Tests.{eq-eqb, eqb-true}
-use Rattle.std.specs.Prelude.{IfOk, Result, Ok, Err}
+use Rattle.std.specs.Prelude.{Ok, Err}
 use Rattle.cdouble.specs.Compensated.{plus_zero, value}
-use Rattle.sheet.specs.declared.numbers.Refusal.{Refusal}
-use Rattle.sheet.specs.Numbers.{numbered}
-use Rattle.sheet.proofs.RefusalNumbers.{ok_says}
-use Rattle.sheet.specs.Sheet.{Sheet, variables}
+use Rattle.sheet.specs.Sheet.{Sheet, variables, Doubles}
 use Rattle.sheet.specs.Lengths.{lengths_fit, lengths_fine}
 use Rattle.sheet.specs.Answers.{Accepted, ask, first_no}
 use Rattle.sheet.proofs.Accepted.{all_yes}
@@ -33,13 +30,10 @@ use Rattle.judgement.specs.Judgement.{judged, judgement}
 use Rattle.kept.specs.Kept.{Lent, after, certificate_of, filled_in, proof_of}
 use Rattle.gaps.specs.Rows.{Ranges, kept_of, ranges_of, rows_of}
 use Rattle.gaps.specs.Steps.{outward_gap, outward_of}
-use Rattle.gaps.specs.ThirdDemand.{NoPoint}
-use Rattle.verdict.specs.declared.Verdict.{Verdict}
 use Rattle.verdict.specs.Verdict.{full_verdict, verdict, with_outward}
-use Rattle.verdict.proofs.Whole.{Declined}
 use Rattle.same_widened.specs.Interchangeable.{Interchangeable, has_size, with_widened}
 
--- ---- two sheets that get one number, and one verdict and one meaning of a declined answer where that is 0
+-- ---- two sheets that get one number, and one verdict where that is 0
 module _ (s other : Sheet) (number : first_no other ≡ first_no s) (full : Accepted s → full_verdict other ≡ full_verdict s) where
   at_zero : {b : Bool} → eqb (first_no s) 0 ≡ b → cond b (Ok (full_verdict other)) (Err (first_no s)) ≡ cond b (Ok (full_verdict s)) (Err (first_no s))
   at_zero {b = true} e = ap Ok (full (eqb-true (first_no s) 0 e))
@@ -48,11 +42,6 @@ module _ (s other : Sheet) (number : first_no other ≡ first_no s) (full : Acce
   pub alike_verdict : verdict other ≡ verdict s
   unfolding verdict
   alike_verdict = rw number (at_zero refl)
-
-  pub alike_declined : (Accepted s → (r : Result Verdict Refusal) → Declined other r → Declined s r) → (r : Result Verdict Refusal) → numbered r ≡ verdict other → Declined other r → Declined s r
-  unfolding verdict
-  alike_declined meaning (Ok v) is rules = meaning (sym number ∙ (ok_says (first_no other) is).0) (Ok v) rules
-  alike_declined meaning (Err refusal) is rules = tt
 
 -- ---- the same sheet with two lists
 module _ (s : Sheet) (vars ups vars' ups' : List ℕ) where
@@ -115,7 +104,20 @@ module _ (s : Sheet) (vars ups vars' ups' : List ℕ) where
     unfolding after filled_in certificate_of
     same_after before = rw number_same refl
 
-    pub same_declined : (r : Result Verdict Refusal) → numbered r ≡ verdict other → Declined other r → Declined one r
-    same_declined =
-        alike_declined one other number_same full_same
-        (λ accepted r rules. subst (λ (g : Ranges). IfOk r (λ v. T v.declined → NoPoint (rows_of one) g)) (ranges_same accepted) rules)
+-- ---- no number stands in a widened list, so a sheet's are doubles with any other
+pub same_doubles : (s : Sheet) (vars ups : List ℕ) → Doubles s → Doubles (with_widened vars ups s)
+same_doubles s vars ups d =
+    record {
+      entries_fit = d.entries_fit;
+      right_sides_fit = d.right_sides_fit;
+      scales_fit = d.scales_fit;
+      feasibility_fits = d.feasibility_fits;
+      mins_fit = d.mins_fit;
+      maxs_fit = d.maxs_fit;
+      low_fit = d.low_fit;
+      high_fit = d.high_fit;
+      values_fit = d.values_fit;
+      rho_hi_fit = d.rho_hi_fit;
+      rho_lo_fit = d.rho_lo_fit;
+      second_fit = d.second_fit;
+    }

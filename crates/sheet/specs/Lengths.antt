@@ -36,7 +36,9 @@ outputs_fit count outputs =
     && leb count outputs.errors
 
 -- all slices; each widened item has its side
-unfoldable pub lengths_fit : Sizes → Outputs → List ℕ → List ℕ → List Float → List Float → List Float → List ℕ → List Float → List Float → List Float → List Float → List ℕ → List ℕ → List Float → List ℕ → List ℕ → List Float → List Float → List Float → Bool
+unfoldable pub lengths_fit :
+    Sizes → Outputs → List ℕ → List ℕ → List Float → List Float → List Float → List ℕ → List Float → List Float → List Float → List Float
+    → List ℕ → List ℕ → List Float → List ℕ → List ℕ → List Float → List Float → List Float → Bool
 lengths_fit sizes outputs starts columns entries right_sides scales integer mins maxs low_tolerances high_tolerances basic places values widened_variables widened_ups rho_hi rho_lo second =
     let count = sizes.structurals + sizes.rows in
     rows_fit sizes.rows sizes.entries starts columns entries right_sides scales rho_hi rho_lo second

@@ -50,8 +50,12 @@ pub record Sheet : Type 0 where
   pub outputs : Outputs
 
 -- the one place where a sheet is made from what is lent
-abbrev pub sheet : Sizes → Float → ℕ → ℕ → ℕ → Outputs → List ℕ → List ℕ → List Float → List Float → List Float → List ℕ → List Float → List Float → List Float → List Float → List ℕ → List ℕ → List Float → List ℕ → List ℕ → List Float → List Float → List Float → Sheet
-sheet sizes feasibility checked leaving_row leaving_up outputs starts columns entries right_sides scales integer mins maxs low_tolerances high_tolerances basic places values widened_variables widened_ups rho_hi rho_lo second =
+abbrev pub sheet :
+    Sizes → Float → ℕ → ℕ → ℕ → Outputs → List ℕ → List ℕ → List Float → List Float → List Float → List ℕ → List Float → List Float
+    → List Float → List Float → List ℕ → List ℕ → List Float → List ℕ → List ℕ → List Float → List Float → List Float → Sheet
+sheet
+    sizes feasibility checked leaving_row leaving_up outputs starts columns entries right_sides scales integer mins maxs low_tolerances
+    high_tolerances basic places values widened_variables widened_ups rho_hi rho_lo second =
     record {
       rows = sizes.rows;
       structurals = sizes.structurals;

@@ -5,9 +5,11 @@
 mod answers;
 mod in_order;
 mod lent;
+mod lent_doubles;
 mod numbers;
 
 pub use answers::{Outputs, lengths_fine, sizes_fine};
 pub use in_order::first_no;
 pub use lent::Sheet;
+pub use lent_doubles::sheet_of_doubles;
 pub use numbers::Refusal;

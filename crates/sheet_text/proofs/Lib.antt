@@ -2,3 +2,4 @@ pub mod Counts
 pub mod Gathered
 pub mod Lengths
 pub mod Slices
+pub mod Doubles

@@ -6,17 +6,16 @@ use Prim.Native.Nat.{ℕ, ◌+◌, ◌≤◌}
 use lib.ListN.{take}
 use borrow.Author.Tests.{le-leb}
 use Rattle.std.specs.Prelude.{Bool, Option, Result}
-use Rattle.sheet.specs.declared.numbers.Refusal.{Refusal}
-use Rattle.sheet.specs.Numbers.{numbered}
 use Rattle.questions.specs.Limits.{most_rows, most_structurals}
 use Rattle.questions.specs.PlaceQuestions.{widened_fine}
 use Rattle.edges.specs.Variables.{is_widened}
-use Rattle.sheet.specs.Sheet.{Sheet, variables}
+use Rattle.sheet.specs.Sheet.{Sheet, variables, Doubles}
 use Rattle.sheet.proofs.Accepted.{sizes_hold}
 use Rattle.kept.specs.Kept.{Lent, after}
 use Rattle.verdict.specs.declared.Verdict.{Verdict}
 use Rattle.verdict.specs.Verdict.{verdict}
-use Rattle.verdict.proofs.Whole.{Declined}
+use Rattle.verdict.specs.Promised.{Promised}
+use Rattle.verdict.proofs.Whole.{promised}
 use Rattle.widened_records.specs.declared.Widened.{Widened}
 use Rattle.widened_records.specs.Records.{count_of, ups_of, variables_of}
 use Rattle.widened_records.specs.Found.{found_in}
@@ -26,7 +25,7 @@ use Rattle.widened_records.proofs.Counts.{count_few}
 use Rattle.widened_records.proofs.Front.{front_fine, front_whole}
 use Rattle.widened_records.proofs.ListedMarks.{listed_fine, listed_held, listed_sided, records_sided}
 use Rattle.same_widened.specs.Interchangeable.{Interchangeable, has_size, with_widened}
-use Rattle.same_widened.proofs.SameWidened.{same_after, same_declined, same_verdict}
+use Rattle.same_widened.proofs.SameWidened.{same_after, same_doubles, same_verdict}
 use Rattle.sheet_verdict.specs.FoundSheet.{with_found}
 
 -- a sheet that passes the second question has so many variables
@@ -64,16 +63,11 @@ module _ (s : Sheet) (list : List Widened) where
             ∙ listed_held count front few (front_fine count list few ∙ passes) v up;
       }
 
-  pub entry_says : (before : Lent) {f : Option (List Bool)} {now : Lent} (r : Result Verdict Refusal) → f ≡ found
-      → (numbered r ≡ verdict (with_found f s)) × ((now ≡ after (with_found f s) before) × Declined (with_found f s) r)
-      → (numbered r ≡ verdict (with_widened (variables_of list) (ups_of list) s))
-      × ((now ≡ after (with_widened (variables_of list) (ups_of list) s) before) × Declined (with_widened (variables_of list) (ups_of list) s) r)
-  entry_says before {f} {now} r is says =
-      let facts : (numbered r ≡ verdict (with_found found s)) × ((now ≡ after (with_found found s) before) × Declined (with_found found s) r) =
-      subst (λ (x : Option (List Bool)). (numbered r ≡ verdict (with_found x s)) × ((now ≡ after (with_found x s) before) × Declined (with_found x s) r)) is says in (
-        facts.0 ∙ same_verdict s _ _ _ _ found_interchangeable,
-        (
-          facts.1.0 ∙ same_after s _ _ _ _ found_interchangeable before,
-          same_declined s _ _ _ _ found_interchangeable r facts.0 facts.1.1,
-        ),
-      )
+  pub entry_says : (before : Lent) {f : Option (List Bool)} {now : Lent} {answer : Result Verdict ℕ} → f ≡ found → Doubles s
+      → (answer ≡ verdict (with_found f s)) × (now ≡ after (with_found f s) before)
+      → Promised (with_widened (variables_of list) (ups_of list) s) before now answer
+  entry_says before {f} {now} {answer} is doubles says =
+      let facts : (answer ≡ verdict (with_found found s)) × (now ≡ after (with_found found s) before) =
+      subst (λ (x : Option (List Bool)). (answer ≡ verdict (with_found x s)) × (now ≡ after (with_found x s) before)) is says in
+      promised _ before (facts.0 ∙ same_verdict s _ _ _ _ found_interchangeable) (facts.1 ∙ same_after s _ _ _ _ found_interchangeable before)
+      (same_doubles s _ _ doubles)

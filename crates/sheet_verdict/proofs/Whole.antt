@@ -6,14 +6,12 @@ use Prim.Native.Nat.{ℕ, ◌+◌, ◌*◌, ◌≤◌}
 use lib.ListN.{length, take, replicate, length-take, length-replicate}
 use lib.Seq.{sets, length-sets}
 use Rattle.std.specs.Prelude.{Bool, Option, Result}
-use Rattle.sheet.specs.declared.numbers.Refusal.{Refusal}
-use Rattle.sheet.specs.Numbers.{numbered}
 use Rattle.questions.specs.Limits.{most_rows, most_structurals}
 use Rattle.sheet.specs.Sheet.{Sheet}
 use Rattle.kept.specs.Kept.{Lent, after}
 use Rattle.verdict.specs.declared.Verdict.{Verdict}
 use Rattle.verdict.specs.Verdict.{verdict}
-use Rattle.verdict.proofs.Whole.{Declined}
+use Rattle.verdict.specs.Promised.{Promised}
 use Rattle.widened_records.specs.Records.{count_of}
 use Rattle.widened_records.specs.Listed.{found_variables, found_ups}
 use Rattle.widened_records.proofs.Counts.{count_few}
@@ -22,8 +20,8 @@ use Rattle.widened_records.proofs.Fronts.{found_few, variables_back, sides_back}
 use Rattle.sheet_verdict.specs.FoundSheet.{with_found}
 
 -- what the contract says of an answer, and of the lists lent after it
-abbrev Answers : Sheet → Lent → Lent → Result Verdict Refusal → Type 0
-Answers s before now r = (numbered r ≡ verdict s) × ((now ≡ after s before) × Declined s r)
+abbrev Answers : Sheet → Lent → Lent → Result Verdict ℕ → Type 0
+Answers s before now answer = (answer ≡ verdict s) × (now ≡ after s before)
 
 -- the memory that the items are written to
 abbrev zeros : List ℕ
@@ -58,6 +56,6 @@ module _ (found : Option (List Bool)) (s : Sheet) {count : ℕ} (counted : count
       let u : take items ups ≡ found_ups count found = sides_back found count listed.0 zeros few listed.1.1 in
       rw (v, u, counted)
 
-  pub found_full : (before : Lent) {now : Lent} (r : Result Verdict Refusal) → Answers (with_widened (take items vars) (take items ups) s) before now r
-      → Answers (with_found found s) before now r
-  found_full before {now} r answers = subst (λ (t : Sheet). Answers t before now r) same answers
+  pub found_full : (before : Lent) {now : Lent} {answer : Result Verdict ℕ} → Promised (with_widened (take items vars) (take items ups) s) before now answer
+      → Answers (with_found found s) before now answer
+  found_full before {now} {answer} whole = subst (λ (t : Sheet). Answers t before now answer) same (whole.answer_is, whole.lent_is)

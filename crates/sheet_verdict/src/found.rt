@@ -1,12 +1,10 @@
 //! The verdict on a sheet whose widened list is what a search of it has found. The marks are written out as the two lists
 //! that `verdict::verdict_of` takes, in this crate's own memory.
 
-ghost use Rattle.std.specs.Prelude.{◌≡◌, IfOk, T};
+ghost use Rattle.std.specs.Prelude.{◌≡◌};
 ghost use Rattle.sheet.specs.Numbers.{numbered};
 ghost use Rattle.certificate.specs.Lent.{SameSlices, lent_lists};
 ghost use Rattle.kept.specs.Kept.{after, lent, sheet_lent};
-ghost use Rattle.gaps.specs.Rows.{ranges_of, rows_of};
-ghost use Rattle.gaps.specs.ThirdDemand.{NoPoint};
 ghost use Rattle.verdict.specs.Verdict.{verdict};
 ghost use Rattle.sheet_verdict.specs.FoundSheet.{with_found};
 
@@ -22,10 +20,8 @@ pub fn verdict_found(
     l: &mut Lists,
     errors: &mut [f64],
 ) -> Result<Verdict, Refusal>
-    ensures value { numbered result ≡ verdict (with_found found.now (sheet_lent s.now l.old errors.old)) }
-    ensures lent_after { lent (lent_lists l.new) errors.new ≡ after (with_found found.now (sheet_lent s.now l.old errors.old)) (lent (lent_lists l.old) errors.old) }
-    ensures no_point { IfOk result (λ v. T v.declined →
-        NoPoint (rows_of (with_found found.now (sheet_lent s.now l.old errors.old))) (ranges_of (with_found found.now (sheet_lent s.now l.old errors.old)))) }
+    ensures promised { (let whole = with_found found.now (sheet_lent s.now l.old errors.old) in
+        (numbered result ≡ verdict whole) × (lent (lent_lists l.new) errors.new ≡ after whole (lent (lent_lists l.old) errors.old))) }
     ensures same_slices { SameSlices l.old l.new }
 {
     // Kept: arrays of the largest size, since there is no heap and the limits are fixed.

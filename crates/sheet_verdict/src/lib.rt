@@ -3,18 +3,16 @@
 
 #![tactic(auto)]
 
-ghost use Rattle.std.specs.Prelude.{◌≡◌, IfOk, T};
 ghost use Rattle.sheet.specs.Numbers.{numbered};
 ghost use Rattle.certificate.specs.Lent.{SameSlices, lent_lists};
-ghost use Rattle.kept.specs.Kept.{after, lent, sheet_lent};
-ghost use Rattle.gaps.specs.Rows.{ranges_of, rows_of};
-ghost use Rattle.gaps.specs.ThirdDemand.{NoPoint};
-ghost use Rattle.verdict.specs.Verdict.{verdict};
+ghost use Rattle.kept.specs.Kept.{lent, sheet_lent};
+ghost use Rattle.verdict.specs.Promised.{Promised};
 ghost use Rattle.widened_records.specs.Records.{ups_of, variables_of};
 ghost use Rattle.same_widened.specs.Interchangeable.{with_widened};
 
 use certificate::Lists;
-use sheet::{Refusal, Sheet};
+use kept::outputs_of;
+use sheet::{Refusal, Sheet, sheet_of_doubles};
 use verdict::Verdict;
 use widened_records::{Widened, search};
 
@@ -29,13 +27,11 @@ pub fn sheet_verdict(
     l: &mut Lists,
     errors: &mut [f64],
 ) -> Result<Verdict, Refusal>
-    ensures value { numbered result ≡ verdict (with_widened (variables_of widened.now) (ups_of widened.now) (sheet_lent s.now l.old errors.old)) }
-    ensures lent_after { lent (lent_lists l.new) errors.new
-        ≡ after (with_widened (variables_of widened.now) (ups_of widened.now) (sheet_lent s.now l.old errors.old)) (lent (lent_lists l.old) errors.old) }
-    ensures no_point { IfOk result (λ v. T v.declined → NoPoint (rows_of (with_widened (variables_of widened.now) (ups_of widened.now) (sheet_lent s.now l.old errors.old)))
-        (ranges_of (with_widened (variables_of widened.now) (ups_of widened.now) (sheet_lent s.now l.old errors.old)))) }
+    ensures promised { (let whole = with_widened (variables_of widened.now) (ups_of widened.now) (sheet_lent s.now l.old errors.old) in
+        Promised whole (lent (lent_lists l.old) errors.old) (lent (lent_lists l.new) errors.new) (numbered result)) }
     ensures same_slices { SameSlices l.old l.new }
 {
+    sheet_of_doubles(s, outputs_of(l, errors));
     let found = search(widened, s.rows, s.structurals);
     verdict_found(&found, s, l, errors)
 }

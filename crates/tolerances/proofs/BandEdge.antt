@@ -198,13 +198,13 @@ module _ (bound tol : Float) (up : Bool) where
   -- at once
   no_step : too_far bound tol start ≡ false → Outer bound up start → (T (finite tol) → T (finite start)) → IsBandEdge bound tol up (band_edge bound tol up)
   unfolding band_edge
-  no_step e o f = subst (IsBandEdge bound tol up) (sym (settled bound tol up start e 1)) (record { ends = λ n. settled bound tol up start e _; outer = o; keeps_finite = f })
+  no_step e o f = subst (IsBandEdge bound tol up) (sym (settled bound tol up start e 1)) (record { ended = e; ends = λ n. settled bound tol up start e _; outer = o; keeps_finite = f })
 
   -- after one step
   one_step : too_far bound tol start ≡ true → too_far bound tol (step_back up start) ≡ false → Outer bound up (step_back up start) → T (finite (step_back up start))
       → IsBandEdge bound tol up (band_edge bound tol up)
   unfolding band_edge
-  one_step e e' o f = subst (IsBandEdge bound tol up) (sym (after 0)) (record { ends = after; outer = o; keeps_finite = λ t. f })
+  one_step e e' o f = subst (IsBandEdge bound tol up) (sym (after 0)) (record { ended = e'; ends = after; outer = o; keeps_finite = λ t. f })
     where
       after : (n : ℕ) → turns (suc n) bound tol up start ≡ step_back up start
       after n = goes_on bound tol up start e n ∙ settled bound tol up (step_back up start) e' n

@@ -1,5 +1,5 @@
 -- `band_edge`: 01, "`band_edge` with tolerance at least 0 and a finite bound steps back at most one double". Assumes nothing.
-use Rattle.std.specs.Prelude.{◌≡◌, Bool, cond, ℕ, zero, suc, T, Float}
+use Rattle.std.specs.Prelude.{◌≡◌, Bool, false, cond, ℕ, zero, suc, T, Float}
 use Rattle.std.specs.Float.Ieee.{lt, le}
 use Rattle.std.specs.Float.Ieee.Scale.{finite}
 use Rattle.doubles.specs.Neighbours.{next_up, next_down}
@@ -27,9 +27,11 @@ turns (suc n) bound tol up edge = cond (too_far bound tol edge) (turns n bound t
 unfoldable pub band_edge : Float → Float → Bool → Float
 band_edge bound tol up = turns 1 bound tol up (band_start bound tol up)
 
--- what is promised of it, of a tolerance at least 0 and a finite bound: the Rust's loop ends there, having stepped back at most once;
--- it lies on the outer side of the bound or on it; and it is finite where the tolerance is
+-- what is promised of it, of a tolerance at least 0 and a finite bound: the Rust's loop has ended there, for its test is false of it; it has
+-- stepped back at most once, and more turns would change nothing; it lies on the outer side of the bound or on it; and it is finite where the
+-- tolerance is
 pub record IsBandEdge (bound tol : Float) (up : Bool) (edge : Float) : Type 0 where
+  pub ended : too_far bound tol edge ≡ false
   pub ends : (n : ℕ) → turns (suc n) bound tol up (band_start bound tol up) ≡ edge
   pub outer : T (cond up (le bound edge) (le edge bound))
   pub keeps_finite : T (finite tol) → T (finite edge)

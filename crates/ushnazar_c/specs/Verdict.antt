@@ -1,12 +1,10 @@
 -- The verdict on a sheet as C gets it: document 01, "Questions put to the input". Assumes nothing.
-use Rattle.std.specs.Prelude.{false, cond, List, ℕ, eqb, Result, Ok, Err}
+use Rattle.std.specs.Prelude.{false, cond, ℕ, eqb, Result, Ok, Err}
 use Rattle.cdouble.specs.Compensated.{plus_zero}
 use Rattle.sheet.specs.Sheet.{Sheet}
 use Rattle.sheet.specs.Answers.{first_no}
 use Rattle.verdict.specs.declared.Verdict.{Verdict as Full}
 use Rattle.verdict.specs.Verdict.{full_verdict}
-use Rattle.sheet_text.specs.Form.{follows_form}
-use Rattle.sheet_text.specs.SheetIn.{sheet_in}
 use Rattle.ushnazar_c.specs.declared.Verdict.{Verdict}
 
 -- "The answer is a numbered refusal", and every other field is 0
@@ -49,7 +47,3 @@ told (Err number) = refused_with number
 -- "the first "no" gives its number"
 unfoldable pub verdict : Sheet → Verdict
 verdict s = cond (eqb (first_no s) 0) (full_with (full_verdict s)) (refused_with (first_no s))
-
--- of a text: the first question, then the others and the verdict on the sheet that it says
-unfoldable pub text_verdict : List ℕ → Verdict
-text_verdict text = cond (follows_form text) (verdict (sheet_in text)) (refused_with 1)

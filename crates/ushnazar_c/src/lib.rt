@@ -1,19 +1,16 @@
 //! The library for callers in C: each function is the library's of the same name, over slices that are lent one by one.
 #![tactic(auto)]
 
-ghost use Rattle.std.specs.Prelude.{◌≡◌, ◌≤◌, T, length};
+ghost use Rattle.std.specs.Prelude.{◌≡◌};
 ghost use Rattle.cdouble.specs.Compensated.{plus, plus_scaled};
 ghost use Rattle.sheet.specs.Sheet.{sheet};
 ghost use Rattle.certificate.specs.Added.{lists};
-ghost use Rattle.kept.specs.Kept.{after, lent, outputs, sizes};
-ghost use Rattle.gaps.specs.Rows.{ranges_of, rows_of};
-ghost use Rattle.gaps.specs.ThirdDemand.{NoPoint};
+ghost use Rattle.kept.specs.Kept.{lent, outputs, sizes};
 ghost use Rattle.sheet.specs.Numbers.{numbered};
-ghost use Rattle.ushnazar_c.specs.Verdict.{refused_with, text_verdict, told, verdict};
 ghost use Rattle.widened_records.specs.Records.{ups_of, variables_of};
-ghost use Rattle.printer.specs.Answer.{written_if_fits};
-ghost use Rattle.sheet_text.specs.SheetIn.{sheet_in};
-ghost use Rattle.weigh_text.specs.TextVerdict.{most_answer, text_answer};
+ghost use Rattle.weigh_text.specs.TextPromised.{TextPromised};
+ghost use Rattle.ushnazar_c.specs.Promised.{Promised};
+ghost use Rattle.ushnazar_c.specs.Verdict.{refused_with, told};
 
 use cdouble::CDouble;
 use certificate::Lists;
@@ -127,21 +124,11 @@ pub extern "C" fn sheet_verdict<'a>(
     rho_lo: &'a [f64],
     second: &'a [f64],
 ) -> Verdict
-    ensures value { result ≡ verdict (sheet (sizes rows structurals entry_count) feasibility checked leaving_row leaving_up (outputs (lists high.old low.old
-        magnitudes.old terms.old) errors.old) starts.now columns.now entries.now right_sides.now scales.now integer.now mins.now maxs.now
-        low_tolerances.now high_tolerances.now basic.now places.now values.now (variables_of widened.now) (ups_of widened.now) rho_hi.now rho_lo.now
-        second.now) }
-    ensures lent_after { lent (lists high.new low.new magnitudes.new terms.new) errors.new ≡ after (sheet (sizes rows structurals entry_count) feasibility checked
-        leaving_row leaving_up (outputs (lists high.old low.old magnitudes.old terms.old) errors.old) starts.now columns.now entries.now
-        right_sides.now scales.now integer.now mins.now maxs.now low_tolerances.now high_tolerances.now basic.now places.now values.now (variables_of
-        widened.now) (ups_of widened.now) rho_hi.now rho_lo.now second.now) (lent (lists high.old low.old magnitudes.old terms.old) errors.old) }
-    ensures no_point { T result.declined → NoPoint (rows_of (sheet (sizes rows structurals entry_count) feasibility checked leaving_row leaving_up (outputs (lists
-        high.old low.old magnitudes.old terms.old) errors.old) starts.now columns.now entries.now right_sides.now scales.now integer.now mins.now
-        maxs.now low_tolerances.now high_tolerances.now basic.now places.now values.now (variables_of widened.now) (ups_of widened.now) rho_hi.now
-        rho_lo.now second.now)) (ranges_of (sheet (sizes rows structurals entry_count) feasibility checked leaving_row leaving_up (outputs (lists
-        high.old low.old magnitudes.old terms.old) errors.old) starts.now columns.now entries.now right_sides.now scales.now integer.now mins.now
-        maxs.now low_tolerances.now high_tolerances.now basic.now places.now values.now (variables_of widened.now) (ups_of widened.now) rho_hi.now
-        rho_lo.now second.now)) }
+    ensures promised { (let certificate = lists high.old low.old magnitudes.old terms.old in
+        let whole = sheet (sizes rows structurals entry_count) feasibility checked leaving_row leaving_up (outputs certificate errors.old)
+        starts.now columns.now entries.now right_sides.now scales.now integer.now mins.now maxs.now low_tolerances.now high_tolerances.now
+        basic.now places.now values.now (variables_of widened.now) (ups_of widened.now) rho_hi.now rho_lo.now second.now in
+        Promised whole (lent certificate errors.old) (lent (lists high.new low.new magnitudes.new terms.new) errors.new) result) }
 {
     let s = Sheet {
         rows,
@@ -213,19 +200,11 @@ pub extern "C" fn verdict_of(
     rho_lo: &[f64],
     second: &[f64],
 ) -> Verdict
-    ensures value { result ≡ verdict (sheet (sizes rows structurals entry_count) feasibility checked leaving_row leaving_up (outputs (lists high.old low.old
-        magnitudes.old terms.old) errors.old) starts.now columns.now entries.now right_sides.now scales.now integer.now mins.now maxs.now
-        low_tolerances.now high_tolerances.now basic.now places.now values.now widened_vars.now widened_ups.now rho_hi.now rho_lo.now second.now) }
-    ensures lent_after { lent (lists high.new low.new magnitudes.new terms.new) errors.new ≡ after (sheet (sizes rows structurals entry_count) feasibility checked
-        leaving_row leaving_up (outputs (lists high.old low.old magnitudes.old terms.old) errors.old) starts.now columns.now entries.now
-        right_sides.now scales.now integer.now mins.now maxs.now low_tolerances.now high_tolerances.now basic.now places.now values.now
-        widened_vars.now widened_ups.now rho_hi.now rho_lo.now second.now) (lent (lists high.old low.old magnitudes.old terms.old) errors.old) }
-    ensures no_point { T result.declined → NoPoint (rows_of (sheet (sizes rows structurals entry_count) feasibility checked leaving_row leaving_up (outputs (lists
-        high.old low.old magnitudes.old terms.old) errors.old) starts.now columns.now entries.now right_sides.now scales.now integer.now mins.now
-        maxs.now low_tolerances.now high_tolerances.now basic.now places.now values.now widened_vars.now widened_ups.now rho_hi.now rho_lo.now
-        second.now)) (ranges_of (sheet (sizes rows structurals entry_count) feasibility checked leaving_row leaving_up (outputs (lists high.old
-        low.old magnitudes.old terms.old) errors.old) starts.now columns.now entries.now right_sides.now scales.now integer.now mins.now maxs.now
-        low_tolerances.now high_tolerances.now basic.now places.now values.now widened_vars.now widened_ups.now rho_hi.now rho_lo.now second.now)) }
+    ensures promised { (let certificate = lists high.old low.old magnitudes.old terms.old in
+        let whole = sheet (sizes rows structurals entry_count) feasibility checked leaving_row leaving_up (outputs certificate errors.old)
+        starts.now columns.now entries.now right_sides.now scales.now integer.now mins.now maxs.now low_tolerances.now high_tolerances.now
+        basic.now places.now values.now widened_vars.now widened_ups.now rho_hi.now rho_lo.now second.now in
+        Promised whole (lent certificate errors.old) (lent (lists high.new low.new magnitudes.new terms.new) errors.new) result) }
 {
     let s = Sheet {
         rows,
@@ -267,10 +246,7 @@ pub extern "C" fn verdict_of(
 /// written.
 #[unsafe(no_mangle)]
 pub extern "C" fn weigh_text(text: &[u8], out: &mut [u8]) -> usize
-    ensures value { result ≡ length (text_answer text.now) }
-    ensures out_after { out.new ≡ written_if_fits (text_answer text.now) out.old }
-    ensures upper_bound { result ≤ most_answer }
-    ensures no_point { T (text_verdict text.now).declined → NoPoint (rows_of (sheet_in text.now)) (ranges_of (sheet_in text.now)) }
+    ensures { TextPromised text.now out.old out.new result }
 {
     weigh_text::weigh_text(text, out)
 }

@@ -1,62 +1,64 @@
--- The verdict, and what a declined answer means, from what the calls gave. Assumes nothing.
-use mathlib.Core.Path.{◌≡◌, ap, sym, subst, ◌∙◌}
+-- The verdict from what the calls gave, and what an entry point promises, which follows from its equations. Assumes nothing.
+use mathlib.Core.Path.{◌≡◌, refl, ap, sym, subst, ◌∙◌}
+use mathlib.Core.Bool.{Bool, true, false, cond}
 use Prim.Native.Nat.{ℕ}
-use lib.Dec.{T}
+use borrow.Author.Tests.{eqb-true}
+use lib.Dec.{T, eqb}
 use lib.Ieee.{Float, lt}
-use lib.Ieee.Fits.{and_r}
 use Rattle.std.specs.Prelude.{IfOk, Result, Ok, Err}
 use Rattle.std.specs.Result.{IsErrAnd}
-use Rattle.std.proofs.lemmas.Result.{err_from_is_err_and}
 use Rattle.cdouble.specs.Compensated.{plus_zero}
 use Rattle.sheet.specs.declared.numbers.Refusal.{Refusal}
 use Rattle.sheet.specs.Numbers.{number_of, numbered}
 use Rattle.sheet.proofs.RefusalNumbers.{answered_err, answered_ok}
 use Rattle.sheet.specs.Sheet.{Sheet, Doubles}
-use Rattle.sheet.specs.Answers.{first_no}
+use Rattle.sheet.specs.Answers.{Accepted, first_no}
 use Rattle.judgement.specs.declared.gap.Proof.{Proof}
 use Rattle.kept.specs.Kept.{Lent, after, filled_in, proof_of}
 use Rattle.kept.proofs.Whole.{after_full, after_refused}
-use Rattle.outward_sheet.proofs.NoPoint.{no_point}
 use Rattle.gaps.specs.Rows.{rows_of, ranges_of}
+use Rattle.gaps.specs.ExactGap.{exact_of}
 use Rattle.gaps.specs.Steps.{outward_of}
-use Rattle.gaps.specs.ThirdDemand.{NoPoint}
+use Rattle.gaps.specs.ThirdDemand.{NotAbove, NoPoint}
 use Rattle.verdict.specs.declared.Verdict.{Verdict}
 use Rattle.verdict.specs.Verdict.{with_outward, full_verdict, verdict}
-
--- "that a declined answer rules out every point"
-abbrev pub Declined : Sheet → Result Verdict Refusal → Type 0
-Declined s r = IfOk r (λ v. T v.declined → NoPoint (rows_of s) (ranges_of s))
+use Rattle.verdict.specs.Promised.{Promised}
+use Rattle.verdict.proofs.Full.{full_not_above, full_rules_out}
 
 module _ (s : Sheet) where
-  module _ {p : Proof} {g : Float} {v : Verdict} (answers : v ≡ with_outward p g) where
-    pub verdict_full : 0 ≡ first_no s → p ≡ proof_of s → g ≡ outward_of s → Ok v ≡ verdict s
-    unfolding verdict full_verdict
-    verdict_full none proof_is gap_is =
-        answered_ok none (answers ∙ ap (λ (x : Proof). with_outward x g) proof_is ∙ ap (with_outward (proof_of s)) gap_is)
+  -- ---- what holds of the full verdict of an accepted sheet holds of its answer
+  pub of_verdict : (P : Verdict → Type 0) → (Accepted s → P (full_verdict s)) → IfOk (verdict s) P
+  unfolding verdict
+  of_verdict P holds = go (eqb (first_no s) 0) refl
+    where
+      go : (b : Bool) → eqb (first_no s) 0 ≡ b → IfOk (cond b (Ok (full_verdict s)) (Err (first_no s))) P
+      go true e = holds (eqb-true (first_no s) 0 e)
+      go false e = tt
 
-    pub rules_out : (T (lt plus_zero g) → NoPoint (rows_of s) (ranges_of s)) → T v.declined → NoPoint (rows_of s) (ranges_of s)
-    rules_out above t = above (and_r p.holds (lt plus_zero g) (subst (λ (x : Verdict). T x.declined) answers t))
+  -- ---- what is promised, from the equations
+  pub promised : (before : Lent) {now : Lent} {answer : Result Verdict ℕ} → answer ≡ verdict s → now ≡ after s before → Doubles s → Promised s before now answer
+  promised before {now} {answer} answer_is lent_is doubles =
+      subst (Promised s before now) (sym answer_is)
+      (record {
+        answer_is = refl;
+        lent_is = lent_is;
+        not_above = of_verdict (λ v. NotAbove v.outward (exact_of s)) (λ accepted. full_not_above s accepted doubles);
+        rules_out = of_verdict (λ v. T (lt plus_zero v.outward) → NoPoint (rows_of s) (ranges_of s)) (λ accepted. full_rules_out s accepted doubles);
+        doubles = doubles;
+      })
 
-  module _ (refusal : Refusal) (returned : Result Verdict Refusal) (handed : IsErrAnd returned (λ y. y ≡ refusal)) where
-    pub verdict-refused : number_of refusal ≡ first_no s → numbered returned ≡ verdict s
-    unfolding verdict
-    verdict-refused is = answered_err refusal (full_verdict s) returned handed is
-
-    pub none_declined : Declined s returned
-    none_declined = let p = err_from_is_err_and returned handed in rw p.1 tt
-
--- ---- all of it: the answer, what is lent afterwards, and what a declined order rules out
-module _ (s : Sheet) (before : Lent) where
+-- ---- where no question refuses, and where one does
+module _ (s : Sheet) (before : Lent) (doubles : Doubles s) where
   pub accepted_whole : {p : Proof} {g : Float} {v : Verdict} {now : Lent} → 0 ≡ first_no s → p ≡ proof_of s → g ≡ outward_of s → v ≡ with_outward p g
-      → now ≡ filled_in s before → Doubles s → (Ok v ≡ verdict s) × ((now ≡ after s before) × Declined s (Ok v))
-  accepted_whole none proof_is gap_is answers filled doubles = (
-    verdict_full s answers none proof_is gap_is,
-    (after_full s before none filled, rules_out s answers (no_point s (sym none) doubles gap_is)),
-  )
+      → now ≡ filled_in s before → Promised s before now (Ok v)
+  unfolding full_verdict verdict
+  accepted_whole {g = g} none proof_is gap_is answers filled =
+      promised s before
+      (answered_ok none (answers ∙ ap (λ (x : Proof). with_outward x g) proof_is ∙ ap (with_outward (proof_of s)) gap_is))
+      (after_full s before none filled) doubles
 
   pub refused_whole : (refusal : Refusal) (returned : Result Verdict Refusal) → IsErrAnd returned (λ y. y ≡ refusal) → number_of refusal ≡ first_no s
-      → (numbered returned ≡ verdict s) × ((before ≡ after s before) × Declined s returned)
-  refused_whole refusal returned handed is = (
-    verdict-refused s refusal returned handed is,
-    (after_refused s before refusal is, none_declined s refusal returned handed),
-  )
+      → Promised s before before (numbered returned)
+  unfolding verdict
+  refused_whole refusal returned handed is =
+      promised s before (answered_err refusal (full_verdict s) returned handed is) (after_refused s before refusal is) doubles

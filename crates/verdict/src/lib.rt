@@ -3,19 +3,18 @@
 
 #![tactic(auto)]
 
-ghost use Rattle.std.specs.Prelude.{◌≡◌, IfOk, T};
+ghost use Rattle.std.specs.Prelude.{◌≡◌};
 ghost use Rattle.sheet.specs.Numbers.{numbered};
 ghost use Rattle.certificate.specs.Lent.{SameSlices, lent_lists};
-ghost use Rattle.kept.specs.Kept.{after, lent, sheet_lent};
-ghost use Rattle.gaps.specs.Rows.{ranges_of, rows_of};
-ghost use Rattle.gaps.specs.ThirdDemand.{NoPoint};
-ghost use Rattle.verdict.specs.Verdict.{verdict, with_outward};
+ghost use Rattle.kept.specs.Kept.{lent, sheet_lent};
+ghost use Rattle.verdict.specs.Promised.{Promised};
+ghost use Rattle.verdict.specs.Verdict.{with_outward};
 
 use certificate::Lists;
 use judgement::Proof;
 use kept::{outputs_of, weighed};
 use outward_sheet::gap_of;
-use sheet::{Refusal, Sheet, first_no};
+use sheet::{Refusal, Sheet, first_no, sheet_of_doubles};
 
 /// The verdict on an accepted sheet.
 #[derive(Clone, Copy)]
@@ -38,12 +37,11 @@ fn with_outward(proof: Proof, outward: f64) -> Verdict
 
 /// The questions, and the verdict on a sheet that passes them.
 pub fn verdict_of(s: &Sheet, l: &mut Lists, errors: &mut [f64]) -> Result<Verdict, Refusal>
-    ensures value { numbered result ≡ verdict (sheet_lent s.now l.old errors.old) }
-    ensures lent_after { lent (lent_lists l.new) errors.new ≡ after (sheet_lent s.now l.old errors.old) (lent (lent_lists l.old) errors.old) }
-    ensures no_point { IfOk result (λ v. T v.declined → NoPoint (rows_of (sheet_lent s.now l.old errors.old)) (ranges_of (sheet_lent s.now l.old errors.old))) }
+    ensures promised { Promised (sheet_lent s.now l.old errors.old) (lent (lent_lists l.old) errors.old) (lent (lent_lists l.new) errors.new) (numbered result) }
     ensures same_slices { SameSlices l.old l.new }
 {
     let outputs = outputs_of(l, errors);
+    sheet_of_doubles(s, outputs);
     first_no(s, outputs)?;
     let outward = gap_of(s, outputs);
     Ok(with_outward(weighed(s, l, errors), outward))

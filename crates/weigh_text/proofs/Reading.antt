@@ -9,17 +9,14 @@ use mir.Val.{bool_byte}
 use lib.ListN.{length, get_or, take}
 use lib.Seq.{length-sets}
 use Rattle.cdouble.proofs.Contracts.{when_true, when_false}
-use Rattle.std.specs.Prelude.{Result, Ok, Err}
-use Rattle.sheet.specs.declared.numbers.Refusal.{Refusal}
-use Rattle.sheet.specs.Numbers.{numbered}
+use Rattle.std.specs.Prelude.{Result, Err}
 use Rattle.questions.specs.Questions.{sizes_fine}
 use Rattle.sheet.specs.Sheet.{Sheet, variables}
 use Rattle.sheet.proofs.Accepted.{SizesHold, sizes_hold, lengths_hold}
 use Rattle.verdict.specs.declared.Verdict.{Verdict}
 use Rattle.verdict.specs.Verdict.{verdict}
-use Rattle.verdict.proofs.Whole.{Declined}
 use Rattle.same_widened.specs.Interchangeable.{Interchangeable}
-use Rattle.same_widened.proofs.SameWidened.{same_verdict, same_declined}
+use Rattle.same_widened.proofs.SameWidened.{same_verdict}
 use Rattle.repeats.specs.Filled.{column}
 use Rattle.repeats.proofs.Fronts.{front_of}
 use Rattle.std.proofs.lemmas.List.{take-map}
@@ -40,11 +37,6 @@ use Rattle.widened_records.proofs.FewestItems.{fewest_most, fewest_takes, fewest
 use Rattle.weigh_text.specs.Fronts.{most_variables, HasRoom, fronts, front_verdict}
 use Rattle.weigh_text.specs.TextVerdict.{sheet_with, text_verdict}
 use Rattle.weigh_text.proofs.Cut.{cut_widened, cut_interchangeable, sizes-refused}
-
--- a refusal rules out nothing
-refused_rules : (s : Sheet) (r : Result Verdict Refusal) (number : ℕ) → numbered r ≡ Err number → Declined s r
-refused_rules s (Ok v) number is = cc
-refused_rules s (Err refusal) number is = tt
 
 -- the lists have room for the largest sheet, and the first row is to start at 0
 pub record Room (l : SheetLists) : Type 0 where
@@ -140,26 +132,20 @@ module _ (text : List ℕ) (room : SheetLists) where
     cut_same =
         cut_interchangeable (sheet_in text) most_widened (lengths_hold (sheet_in text) (lengths_are_fine text fine_sizes)).widened_long (omega (arith, few_variables))
 
-    within_limits : (v : Result Verdict Refusal) → numbered v ≡ verdict (fronts (fewest (read_in text).widened) long) → Declined (fronts (fewest (read_in text).widened) long) v
-        → (numbered v ≡ verdict (sheet_in text)) × Declined (sheet_in text) v
-    within_limits v e rules =
-        let cut : numbered v ≡ verdict (cut_widened most_widened (sheet_in text)) = e ∙ ap verdict fronts_are in (
-          cut ∙ same_verdict (sheet_in text) _ _ _ _ cut_same,
-          same_declined (sheet_in text) _ _ _ _ cut_same v cut (subst (λ (x : Sheet). Declined x v) fronts_are rules),
-        )
+    within_limits : {answer : Result Verdict ℕ} → answer ≡ verdict (fronts (fewest (read_in text).widened) long) → answer ≡ verdict (sheet_in text)
+    within_limits e = e ∙ ap verdict fronts_are ∙ same_verdict (sheet_in text) _ _ _ _ cut_same
 
   too_large : Fine ≡ false → verdict (sheet_in text) ≡ Err 2
   unfolding sheet_in
   too_large e = sizes-refused (sheet_in text) e
 
-  verdict_is : Room room → (v : Result Verdict Refusal) → numbered v ≡ front_verdict (read_in text).widened long
-      → Declined (fronts (fewest (read_in text).widened) long) v → (numbered v ≡ verdict (sheet_in text)) × Declined (sheet_in text) v
+  verdict_is : Room room → {answer : Result Verdict ℕ} → answer ≡ front_verdict (read_in text).widened long → answer ≡ verdict (sheet_in text)
   unfolding front_verdict
-  verdict_is enough v e rules = go Fine refl e
+  verdict_is enough {answer} e = go Fine refl e
     where
-      go : (b : Bool) → Fine ≡ b → numbered v ≡ cond b (verdict (fronts (fewest (read_in text).widened) long)) (Err 2) → (numbered v ≡ verdict (sheet_in text)) × Declined (sheet_in text) v
-      go true fine f = within_limits enough fine v f rules
-      go false large f = (f ∙ sym (too_large large), refused_rules (sheet_in text) v 2 f)
+      go : (b : Bool) → Fine ≡ b → answer ≡ cond b (verdict (fronts (fewest (read_in text).widened) long)) (Err 2) → answer ≡ verdict (sheet_in text)
+      go true fine f = within_limits enough fine f
+      go false large f = f ∙ sym (too_large large)
 
   -- what was read, and the lists that the call left
   module _ {r : Read} {left : SheetLists} (reads : r ≡ read_in text) (lists : left ≡ lists_in text room) where
@@ -169,13 +155,10 @@ module _ (text : List ℕ) (room : SheetLists) where
     pub lists_have_room : Room room → HasRoom (sheet_with r left)
     lists_have_room enough = subst HasRoom (sym long_is) (long-has-room enough)
 
-    pub lists-verdict : Room room → (v : Result Verdict Refusal) → numbered v ≡ front_verdict r.widened (sheet_with r left)
-        → Declined (fronts (fewest r.widened) (sheet_with r left)) v → (numbered v ≡ verdict (sheet_in text)) × Declined (sheet_in text) v
-    lists-verdict enough v e rules =
-        verdict_is enough v
+    pub lists-verdict : Room room → {answer : Result Verdict ℕ} → answer ≡ front_verdict r.widened (sheet_with r left) → answer ≡ verdict (sheet_in text)
+    lists-verdict enough e =
+        verdict_is enough
         (e ∙ ap (λ (q : Read). front_verdict q.widened (sheet_with r left)) reads ∙ ap (front_verdict (read_in text).widened) long_is)
-        (subst (λ (x : Sheet). Declined (fronts (fewest (read_in text).widened) x) v) long_is
-        (subst (λ (q : Read). Declined (fronts (fewest q.widened) (sheet_with r left)) v) reads rules))
 
 -- ---- the first question, and the answer
 module _ (text : List ℕ) {r : Read} (reads : r ≡ read_in text) {form : Bool} (asked : form ≡ form_met (length text) r.next) where
@@ -186,6 +169,6 @@ module _ (text : List ℕ) {r : Read} (reads : r ≡ read_in text) {form : Bool}
   unfolding text_verdict
   text_refused failed = when_false (verdict (sheet_in text)) refl (sym form_asked ∙ not-true form failed)
 
-  pub text_full : (v : Result Verdict Refusal) → not form ≡ false → (numbered v ≡ verdict (sheet_in text)) × Declined (sheet_in text) v → (numbered v ≡ text_verdict text) × Declined (sheet_in text) v
+  pub text_full : {answer : Result Verdict ℕ} → not form ≡ false → answer ≡ verdict (sheet_in text) → answer ≡ text_verdict text
   unfolding text_verdict
-  text_full v passed full = (when_true (Err 1) full.0 (sym form_asked ∙ not-false form passed), full.1)
+  text_full passed full = when_true (Err 1) full (sym form_asked ∙ not-false form passed)

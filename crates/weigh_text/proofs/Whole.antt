@@ -8,15 +8,12 @@ use borrow.Author.Tests.{not-true, not-false}
 use lib.ListN.{length, take, length-take}
 use Rattle.cdouble.proofs.Contracts.{when_true, when_false}
 use Rattle.std.specs.Prelude.{Result, Err}
-use Rattle.sheet.specs.declared.numbers.Refusal.{Refusal}
-use Rattle.sheet.specs.Numbers.{numbered}
 use Rattle.questions.specs.Questions.{sizes_fine}
 use Rattle.sheet.specs.declared.answers.Outputs.{Outputs}
 use Rattle.sheet.specs.Sheet.{Sheet, sheet, sizes_of, variables}
 use Rattle.sheet.proofs.Accepted.{SizesHold, sizes_hold}
 use Rattle.verdict.specs.declared.Verdict.{Verdict}
 use Rattle.verdict.specs.Verdict.{verdict}
-use Rattle.verdict.proofs.Whole.{Declined}
 use Rattle.widened_records.specs.Fewest.{fewest}
 use Rattle.weigh_text.specs.Fronts.{HasRoom, most_variables, fronts, front_verdict}
 
@@ -90,12 +87,9 @@ module _ (long : Sheet) {fine : Bool} (asked : fine ≡ sizes_fine long.rows lon
     unfolding front_verdict
     front_refused failed = when_false (verdict Fronts) refl (sym asked ∙ not-true fine failed)
 
-    pub front_full : (r : Result Verdict Refusal) {items : ℕ} {o : Outputs} → not fine ≡ false → items ≡ fewest widened → o ≡ long.outputs
-        → numbered r ≡ verdict (fronts items (lending o)) → Declined (fronts items (lending o)) r
-        → (numbered r ≡ front_verdict widened long) × Declined Fronts r
+    pub front_full : {answer : Result Verdict ℕ} {items : ℕ} {o : Outputs} → not fine ≡ false → items ≡ fewest widened → o ≡ long.outputs
+        → answer ≡ verdict (fronts items (lending o)) → answer ≡ front_verdict widened long
     unfolding front_verdict
-    front_full r {items} {o} passed cut lent e rules =
-        let same : fronts items (lending o) ≡ Fronts = ap (λ (p : Outputs). fronts items (lending p)) lent ∙ ap (λ (k : ℕ). fronts k long) cut in (
-          when_true (Err 2) (e ∙ ap verdict same) (sym asked ∙ not-false fine passed),
-          subst (λ (s : Sheet). Declined s r) same rules,
-        )
+    front_full {items = items} {o = o} passed cut lent e =
+        let same : fronts items (lending o) ≡ Fronts = ap (λ (p : Outputs). fronts items (lending p)) lent ∙ ap (λ (k : ℕ). fronts k long) cut in
+        when_true (Err 2) (e ∙ ap verdict same) (sym asked ∙ not-false fine passed)

@@ -1,2 +1,3 @@
 pub mod TextVerdict
 pub mod Fronts
+pub mod TextPromised

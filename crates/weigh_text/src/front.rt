@@ -1,12 +1,9 @@
 //! The verdict on lists that stand at the front of longer ones.
-ghost use Rattle.std.specs.Prelude.{◌≡◌, IfOk, T};
-ghost use Rattle.gaps.specs.Rows.{ranges_of, rows_of};
-ghost use Rattle.gaps.specs.ThirdDemand.{NoPoint};
+ghost use Rattle.std.specs.Prelude.{◌≡◌};
 ghost use Rattle.sheet.specs.Numbers.{numbered};
 ghost use Rattle.sheet.specs.Lent.{lent_sheet};
 ghost use Rattle.sheet_text.specs.SheetIn.{lent_outputs};
-ghost use Rattle.widened_records.specs.Fewest.{fewest};
-ghost use Rattle.weigh_text.specs.Fronts.{HasRoom, front_verdict, fronts};
+ghost use Rattle.weigh_text.specs.Fronts.{HasRoom, front_verdict};
 
 use certificate::Lists;
 use questions::{MOST_ROWS, MOST_STRUCTURALS};
@@ -20,8 +17,7 @@ pub const MOST_VARIABLES: usize = MOST_STRUCTURALS + MOST_ROWS;
 /// The verdict on the sheet whose lists are the fronts of these, with so many widened items.
 pub fn verdict_on(s: &Sheet, widened: usize) -> Result<Verdict, Refusal>
     requires { HasRoom (lent_sheet s.now lent_outputs) }
-    ensures value { numbered result ≡ front_verdict widened (lent_sheet s.now lent_outputs) }
-    ensures no_point { let front = fronts (fewest widened) (lent_sheet s.now lent_outputs) in IfOk result (λ v. T v.declined → NoPoint (rows_of front) (ranges_of front)) }
+    ensures { numbered result ≡ front_verdict widened (lent_sheet s.now lent_outputs) }
 {
     if !sizes_fine(s) {
         return Err(Refusal::Sizes);

@@ -2,12 +2,9 @@
 
 #![tactic(auto)]
 
-ghost use Rattle.std.specs.Prelude.{◌≡◌, ◌≤◌, IfOk, T, length};
-ghost use Rattle.printer.specs.Answer.{written_if_fits};
-ghost use Rattle.gaps.specs.Rows.{ranges_of, rows_of};
-ghost use Rattle.gaps.specs.ThirdDemand.{NoPoint};
-ghost use Rattle.sheet_text.specs.SheetIn.{sheet_in};
-ghost use Rattle.weigh_text.specs.TextVerdict.{lines_of, most_answer, text_answer, text_verdict};
+ghost use Rattle.std.specs.Prelude.{◌≡◌};
+ghost use Rattle.weigh_text.specs.TextPromised.{TextPromised};
+ghost use Rattle.weigh_text.specs.TextVerdict.{lines_of};
 
 use printer::{Lines, put_answer};
 use verdict::Verdict;
@@ -42,10 +39,7 @@ fn lines_of(v: Verdict) -> Lines
 /// Puts the answer to a text at the front of `out`, where it fits, and answers its length; where it does not fit nothing is
 /// written.
 pub fn weigh_text(text: &[u8], out: &mut [u8]) -> usize
-    ensures value { result ≡ length (text_answer text.now) }
-    ensures out_after { out.new ≡ written_if_fits (text_answer text.now) out.old }
-    ensures upper_bound { result ≤ most_answer }
-    ensures no_point { IfOk (text_verdict text.now) (λ v. T v.declined → NoPoint (rows_of (sheet_in text.now)) (ranges_of (sheet_in text.now))) }
+    ensures { TextPromised text.now out.old out.new result }
 {
     match text_verdict(text) {
         Ok(v) => put_answer(Ok(lines_of(v)), out),

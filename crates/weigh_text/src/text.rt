@@ -1,12 +1,8 @@
 //! The verdict on a text: the first question, then the verdict on the sheet that the text says.
-ghost use Rattle.std.specs.Prelude.{◌≡◌, IfOk, T};
+ghost use Rattle.std.specs.Prelude.{◌≡◌};
 ghost use Rattle.sheet.specs.Numbers.{numbered};
-ghost use Rattle.gaps.specs.Rows.{ranges_of, rows_of};
-ghost use Rattle.gaps.specs.ThirdDemand.{NoPoint};
 ghost use Rattle.sheet_text.specs.Lent.{lent_lists};
-ghost use Rattle.sheet_text.specs.SheetIn.{sheet_in};
-ghost use Rattle.widened_records.specs.Fewest.{fewest};
-ghost use Rattle.weigh_text.specs.Fronts.{HasRoom, front_verdict, fronts};
+ghost use Rattle.weigh_text.specs.Fronts.{HasRoom, front_verdict};
 ghost use Rattle.weigh_text.specs.TextVerdict.{sheet_with, text_verdict};
 
 use crate::{MOST_VARIABLES, verdict_on};
@@ -20,8 +16,7 @@ use widened_records::MOST_WIDENED;
 // The verdict on the sheet at the fronts of lists that a text was read into.
 fn verdict_in(read: Read, l: &SheetLists) -> Result<Verdict, Refusal>
     requires { HasRoom (sheet_with read (lent_lists l.now)) }
-    ensures value { numbered result ≡ front_verdict read.widened (sheet_with read (lent_lists l.now)) }
-    ensures no_point { let s = fronts (fewest read.widened) (sheet_with read (lent_lists l.now)) in IfOk result (λ v. T v.declined → NoPoint (rows_of s) (ranges_of s)) }
+    ensures { numbered result ≡ front_verdict read.widened (sheet_with read (lent_lists l.now)) }
 {
     let s = Sheet {
         rows: read.rows,
@@ -57,8 +52,7 @@ fn verdict_in(read: Read, l: &SheetLists) -> Result<Verdict, Refusal>
 /// The text is read into lists of this function's own, so nothing lent changes. They have room for the largest sheet that
 /// the second question allows; of a longer one the rest is read and not kept.
 pub fn text_verdict(text: &[u8]) -> Result<Verdict, Refusal>
-    ensures value { numbered result ≡ text_verdict text.now }
-    ensures no_point { IfOk result (λ v. T v.declined → NoPoint (rows_of (sheet_in text.now)) (ranges_of (sheet_in text.now))) }
+    ensures { numbered result ≡ text_verdict text.now }
 {
     let mut starts = [0; MOST_ROWS + 1];
     let mut columns = [0; MOST_ENTRIES];

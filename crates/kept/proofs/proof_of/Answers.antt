@@ -16,8 +16,7 @@ returns-in_err-first_no c =
     let refusal = c.in_err-first_no.field-0.0 in
     let is = subst (λ (o : Outputs). number_of refusal ≡ first_no (lent_sheet c.args.s.now o)) c.outputs_of.ensures c.in_err-first_no.ensures in
     record {
-      value = answered_err refusal _ c.from_residual.result c.from_residual.ensures.1 is;
-      lent_after = after_refused _ _ refusal is;
+      promised = (answered_err refusal _ c.from_residual.result c.from_residual.ensures.1 is, after_refused _ _ refusal is);
       same_slices = record { high_is = refl; low_is = refl; magnitudes_is = refl; terms_is = refl };
     }
 
@@ -25,7 +24,6 @@ pub returns : goal.returns
 returns c =
     let none = subst (λ (o : Outputs). 0 ≡ first_no (lent_sheet c.args.s.now o)) c.outputs_of.ensures c.in_ok-first_no.ensures in
     record {
-      value = answered_ok none c.weighed.ensures.value;
-      lent_after = after_full _ _ none c.weighed.ensures.lent_after;
+      promised = (answered_ok none c.weighed.ensures.promised.0, after_full _ _ none c.weighed.ensures.promised.1);
       same_slices = c.weighed.ensures.same_slices;
     }

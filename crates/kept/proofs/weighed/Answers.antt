@@ -33,9 +33,10 @@ pub returns : goal.returns
 returns c =
     let whole = sheet_lent c.args.s.now c.args.l.now c.args.errors.now in
     record {
-      value =
-          kept_is whole c.requires (lent_lists c.args.l.now) c.args.errors.now refl _ c.error_bounds-estimated.ensures c.certificate-c.ensures.value
-          c.leaving_variable-leaving.ensures c.judge.ensures;
-      lent_after = filled_in_lem whole c.requires (lent_lists c.args.l.now) c.args.errors.now refl _ c.error_bounds-estimated.ensures c.certificate-c.ensures.value;
+      promised = (
+        kept_is whole c.requires (lent_lists c.args.l.now) c.args.errors.now refl _ c.error_bounds-estimated.ensures c.certificate-c.ensures.value
+            c.leaving_variable-leaving.ensures c.judge.ensures,
+        filled_in_lem whole c.requires (lent_lists c.args.l.now) c.args.errors.now refl _ c.error_bounds-estimated.ensures c.certificate-c.ensures.value,
+      );
       same_slices = c.certificate-c.ensures.same_slices;
     }

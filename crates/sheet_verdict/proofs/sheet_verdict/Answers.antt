@@ -1,4 +1,8 @@
 -- `sheet_verdict` meets its contract: what is said of a sheet whose list was searched is said of the sheet with its records. Assumes nothing.
+use mathlib.Core.Path.{subst}
+use Rattle.sheet.specs.declared.answers.Outputs.{Outputs}
+use Rattle.sheet.specs.Lent.{lent_sheet}
+use Rattle.sheet.specs.Sheet.{Doubles}
 use Rattle.certificate.specs.Lent.{lent_lists}
 use Rattle.kept.specs.Kept.{lent, sheet_lent}
 use Rattle.sheet_verdict.proofs.Same.{entry_says}
@@ -6,8 +10,10 @@ use Rattle.sheet_verdict.proofs.sheet_verdict.Goals as goal
 
 pub returns : goal.returns
 returns c =
-    let all =
-    entry_says (sheet_lent c.args.s.now c.args.l.now c.args.errors.now) c.args.widened.now (lent (lent_lists c.args.l.now) c.args.errors.now) _
-    c.search-found.ensures.value
-    (c.verdict_found.ensures.value, (c.verdict_found.ensures.lent_after, c.verdict_found.ensures.no_point)) in
-    record { value = all.0; lent_after = all.1.0; no_point = all.1.1; same_slices = c.verdict_found.ensures.same_slices }
+    record {
+      promised =
+          entry_says (sheet_lent c.args.s.now c.args.l.now c.args.errors.now) c.args.widened.now (lent (lent_lists c.args.l.now) c.args.errors.now)
+          c.search-found.ensures.value
+          (subst (λ (o : Outputs). Doubles (lent_sheet c.args.s.now o)) c.outputs_of.ensures c.sheet_of_doubles.ensures) c.verdict_found.ensures.promised;
+      same_slices = c.verdict_found.ensures.same_slices;
+    }

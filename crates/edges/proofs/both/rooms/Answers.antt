@@ -5,10 +5,8 @@ use Rattle.edges.specs.Model.{lent_model}
 use Rattle.edges.proofs.Pairs.{structural_room}
 use Rattle.edges.proofs.both.rooms.Goals as goal
 
-pub returns-then-v-s-clause-low : goal.returns-then-v-s-clause-low
+pub returns-then-v-s : goal.returns-then-v-s
 unfolding toward
-returns-then-v-s-clause-low c = structural_room (lent_model c.args.s.now) c.args.v c.mentioned.ensures c.if-mentioned.false false c.if-v-s.true
-
-pub returns-then-v-s-clause-high : goal.returns-then-v-s-clause-high
-unfolding toward
-returns-then-v-s-clause-high c = structural_room (lent_model c.args.s.now) c.args.v c.mentioned.ensures c.if-mentioned.false true c.if-v-s.true
+returns-then-v-s c =
+    let room = structural_room (lent_model c.args.s.now) c.args.v c.mentioned.ensures c.if-mentioned.false in
+    (room false c.if-v-s.true, room true c.if-v-s.true)

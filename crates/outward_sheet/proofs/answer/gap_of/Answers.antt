@@ -1,7 +1,6 @@
 -- `gap_of` meets its contract. Assumes nothing.
 use native.Mathlib.Omega.{arith}
 use Rattle.sheet.specs.Lent.{lent_sheet}
-use Rattle.outward_sheet.proofs.NoPoint.{no_point}
 use Rattle.outward_sheet.proofs.Fits.{few_variables, rho_same, places_same, outward_fits, gap_of}
 use Rattle.outward_sheet.proofs.answer.gap_of.Goals as goal
 
@@ -17,11 +16,5 @@ leaving_variable-leaving-requires c = places_same (lent_sheet c.args.s.now c.arg
 pub outward_gap-requires : goal.outward_gap-requires
 outward_gap-requires c = outward_fits (lent_sheet c.args.s.now c.args.outputs) c.requires _ _
 
-pub returns-clause-value : goal.returns-clause-value
-returns-clause-value c =
-    gap_of (lent_sheet c.args.s.now c.args.outputs) c.error_bounds-estimated.ensures c.leaving_variable-leaving.ensures c.outward_gap.ensures
-
-pub returns-clause-no_point : goal.returns-clause-no_point
-returns-clause-no_point c =
-    no_point (lent_sheet c.args.s.now c.args.outputs) c.requires c.sheet_of_doubles.ensures
-    (gap_of (lent_sheet c.args.s.now c.args.outputs) c.error_bounds-estimated.ensures c.leaving_variable-leaving.ensures c.outward_gap.ensures)
+pub returns : goal.returns
+returns c = gap_of (lent_sheet c.args.s.now c.args.outputs) c.error_bounds-estimated.ensures c.leaving_variable-leaving.ensures c.outward_gap.ensures

@@ -16,4 +16,4 @@ pub loop-r-preserved : goal.loop-r-preserved
 loop-r-preserved c = next_row c.requires c.loop-r.invariant (omega arith) c.add_row-sum.ensures
 
 pub returns : goal.returns
-returns c = let all = to_written c.requires.long (finish c.loop-r.invariant (omega arith)) in record { value = all.0; lower_after = all.1.0; upper_after = all.1.1 }
+returns c = to_written c.requires.long (finish c.loop-r.invariant (omega arith))

@@ -28,12 +28,12 @@ pub largest_value-m-requires : goal.largest_value-m-requires
 unfolding of_bits
 largest_value-m-requires c =
     let long = (zeros_fit c.requires (most_structurals + most_rows) c.requires.few).long in
-    walk_asks long (from_written long (c.add_rows-b.ensures.value, (c.add_rows-b.ensures.lower_after, c.add_rows-b.ensures.upper_after))) c.requires.read
+    walk_asks long (from_written long c.add_rows-b.ensures) c.requires.read
 
 pub returns : goal.returns
 unfolding of_bits
 returns c =
     let long = (zeros_fit c.requires (most_structurals + most_rows) c.requires.few).long in
-    let added = from_written long (c.add_rows-b.ensures.value, (c.add_rows-b.ensures.lower_after, c.add_rows-b.ensures.upper_after)) in
+    let added = from_written long c.add_rows-b.ensures in
     gap_reckoned _ _ _ c.all_finite_parts.ensures (ap not c.if-not-all_finite_parts.false) added.right_side_is
     (c.largest_value-m.ensures ∙ largest_same long added (ranges_in (lent_model c.args.s.now) c.args.leaving)) c.difference.ensures

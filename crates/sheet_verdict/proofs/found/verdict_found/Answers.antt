@@ -32,9 +32,10 @@ slice_bounds-whole-end-2 c =
 
 pub returns : goal.returns
 returns c =
-    let all =
-    found_full c.args.found.now (sheet_lent c.args.s.now c.args.l.now c.args.errors.now) c.variable_count.ensures
-    (c.listed-items.ensures.value, (c.listed-items.ensures.vars_after, c.listed-items.ensures.ups_after))
-    (lent (lent_lists c.args.l.now) c.args.errors.now) c.verdict_of.result
-    (c.verdict_of.ensures.value, (c.verdict_of.ensures.lent_after, c.verdict_of.ensures.no_point)) in
-    record { value = all.0; lent_after = all.1.0; no_point = all.1.1; same_slices = c.verdict_of.ensures.same_slices }
+    record {
+      promised =
+          found_full c.args.found.now (sheet_lent c.args.s.now c.args.l.now c.args.errors.now) c.variable_count.ensures
+          (c.listed-items.ensures.value, (c.listed-items.ensures.vars_after, c.listed-items.ensures.ups_after))
+          (lent (lent_lists c.args.l.now) c.args.errors.now) c.verdict_of.ensures.promised;
+      same_slices = c.verdict_of.ensures.same_slices;
+    }

@@ -10,7 +10,7 @@ use Rattle.weigh_text.proofs.front.verdict_on.Goals as goal
 
 pub returns-then-not-sizes_fine : goal.returns-then-not-sizes_fine
 returns-then-not-sizes_fine c =
-    record { value = front_refused (lent_sheet c.args.s.now lent_outputs) c.sizes_fine.ensures c.args.widened (ap not c.if-not-sizes_fine.true); no_point = tt }
+    front_refused (lent_sheet c.args.s.now lent_outputs) c.sizes_fine.ensures c.args.widened (ap not c.if-not-sizes_fine.true)
 
 pub overflow_add-count : goal.overflow_add-count
 overflow_add-count c = omega (arith, few (lent_sheet c.args.s.now lent_outputs) c.sizes_fine.ensures (ap not c.if-not-sizes_fine.false))
@@ -93,7 +93,5 @@ slice_bounds-front-end-18 c =
 
 pub returns : goal.returns
 returns c =
-    let all =
-    front_full (lent_sheet c.args.s.now lent_outputs) c.sizes_fine.ensures c.args.widened c.verdict_of.result (ap not c.if-not-sizes_fine.false) c.looked_at-items.ensures refl
-    c.verdict_of.ensures.value c.verdict_of.ensures.no_point in
-    record { value = all.0; no_point = all.1 }
+    front_full (lent_sheet c.args.s.now lent_outputs) c.sizes_fine.ensures c.args.widened (ap not c.if-not-sizes_fine.false) c.looked_at-items.ensures refl
+    c.verdict_of.ensures.promised.answer_is

@@ -70,7 +70,7 @@ room-for-all =
 
 pub returns-then-not-follows_form : goal.returns-then-not-follows_form
 returns-then-not-follows_form c =
-    record { value = text_refused c.args.text.now c.read_sheet-read.ensures.value c.follows_form.ensures (ap not c.if-not-follows_form.true); no_point = tt }
+    text_refused c.args.text.now c.read_sheet-read.ensures.value c.follows_form.ensures (ap not c.if-not-follows_form.true)
 
 pub verdict_in-requires : goal.verdict_in-requires
 unfolding of_bits
@@ -79,7 +79,5 @@ verdict_in-requires c = lists_have_room c.args.text.now room c.read_sheet-read.e
 pub returns : goal.returns
 unfolding of_bits
 returns c =
-    let all =
-    text_full c.args.text.now c.read_sheet-read.ensures.value c.follows_form.ensures c.verdict_in.result (ap not c.if-not-follows_form.false)
-    (lists-verdict c.args.text.now room c.read_sheet-read.ensures.value c.read_sheet-read.ensures.lists room-for-all c.verdict_in.result c.verdict_in.ensures.value c.verdict_in.ensures.no_point) in
-    record { value = all.0; no_point = all.1 }
+    text_full c.args.text.now c.read_sheet-read.ensures.value c.follows_form.ensures (ap not c.if-not-follows_form.false)
+    (lists-verdict c.args.text.now room c.read_sheet-read.ensures.value c.read_sheet-read.ensures.lists room-for-all c.verdict_in.ensures)

@@ -1,5 +1,5 @@
 -- `sheet_of_doubles` meets its contract. Assumes nothing.
-use Rattle.outward_sheet.proofs.answer.sheet_of_doubles.Goals as goal
+use Rattle.sheet.proofs.lent_doubles.sheet_of_doubles.Goals as goal
 
 pub returns : goal.returns
 returns c =
