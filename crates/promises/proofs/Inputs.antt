@@ -66,7 +66,7 @@ module _ (s : Sheet) (d : Doubles s) where
 module _ (text : List ℕ) where
   text_refused : follows_form text ≡ false → answer_to (as_text text) ≡ Err 1
   unfolding text_verdict
-  text_refused bad = rw bad refl
+  text_refused bad = sym (when_false (verdict (sheet_in text)) refl bad)
 
   text_either : (b : Bool) → follows_form text ≡ b → IsFull (as_text text) ⊎ ((number : ℕ) × IsRefusal (as_text text) number)
   text_either true form = go (slices_either (sheet_in text) (text_of_doubles text) (first_no (sheet_in text)) refl)

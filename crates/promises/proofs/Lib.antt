@@ -1,3 +1,4 @@
 pub mod Inputs
 pub mod Bounds
 pub mod Promises
+pub mod Example

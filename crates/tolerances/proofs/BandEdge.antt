@@ -52,7 +52,8 @@ near_enough bound tol edge fb ft fe hb ht he o =
     let w = (within_both (exact tol) (exact edge -ℤ exact bound)).0 o in
     let v = units_between (sub_nearest edge bound fe fb he hb) (neg tol) tol (subst T (sym (finite-neg tol)) ft) (neg-fits binary64 tol ht) ft ht (rw (exact-neg tol) w.0) w.1 in
     let most : exact (absolute d) ≼ exact tol = rw (absolute-exact d, sym (exact_abs d)) ((within_both (exact tol) (exact d)).1 (rw (exact-neg tol) at v.1, v.2)) in
-    is_false (lt tol (absolute d)) (not_T (lt tol (absolute d)) (λ t. ≺_not_≼ (lt_to tol (absolute d) ft (subst T (sym (finite-absolute d)) v.0) ht (absolute-fits d (sub-fits binary64 edge bound)) t) most))
+    let fd : T (finite (absolute d)) = subst T (sym (finite-absolute d)) v.0 in
+    is_false (lt tol (absolute d)) (not_T (lt tol (absolute d)) (λ t. ≺_not_≼ (lt_to tol (absolute d) ft fd ht (absolute-fits d (sub-fits binary64 edge bound)) t) most))
 
 -- an infinite edge is infinitely far from a finite bound
 infinitely-far : (bound tol : Float) (s : Bool) → T (finite bound) → too_far bound tol (inf s) ≡ lt tol (inf false)
@@ -111,7 +112,8 @@ module _ (bound tol e : Float) (fb : T (finite bound)) (hb : T (fits binary64 bo
     | inr i ↦
         let f : T (finite MAX) = (exact_double false largest (lit< tt)).0 in
         let g : T (fits binary64 MAX) = double_fits false largest in
-        inr (subst (Inside bound tol) (sym (ap next_down i)) (record { is_finite = f; fit = g; above = max_greatest bound fb hb; within = low_enough MAX f g (λ t l. subst (λ (x : Float). T (finite x)) i t) }))
+        let within = low_enough MAX f g (λ t l. subst (λ (x : Float). T (finite x)) i t) in
+        inr (subst (Inside bound tol) (sym (ap next_down i)) (record { is_finite = f; fit = g; above = max_greatest bound fb hb; within = within }))
   ]
     where
       between : (a b c : ℤ) → a ≼ b → b ≺ c → a ≺ c
