@@ -57,7 +57,7 @@ module _ (s : Sheet) (d : Doubles s) where
       inr (
         suc n,
         record {
-          one_of_twelve = (omega arith, subst (λ (k : ℕ). k ≤ 12) e (few s));
+          numbered = (omega arith, subst (λ (k : ℕ). k ≤ 12) e (few s));
           answer_is = sym (when_false (Ok (full_verdict s)) refl refused) ∙ ap Err e;
           untouched = λ before. sym (when_false (filled_in s before) refl refused);
         },
@@ -78,8 +78,8 @@ module _ (text : List ℕ) where
           → IsFull (as_text text) ⊎ ((number : ℕ) × IsRefusal (as_text text) number)
       go (inl full) = inl (same ∙ full)
       go (inr refused) =
-          inr (refused.0, record { one_of_twelve = refused.1.one_of_twelve; answer_is = same ∙ refused.1.answer_is; untouched = λ before. refl })
-  text_either false form = inr (1, record { one_of_twelve = (omega arith, omega arith); answer_is = text_refused form; untouched = λ before. refl })
+          inr (refused.0, record { numbered = refused.1.numbered; answer_is = same ∙ refused.1.answer_is; untouched = λ before. refl })
+  text_either false form = inr (1, record { numbered = (omega arith, omega arith); answer_is = text_refused form; untouched = λ before. refl })
 
 pub either : (i : Input) → IsFull i ⊎ ((number : ℕ) × IsRefusal i number)
 either (in_slices s d) = slices_either s d (first_no s) refl

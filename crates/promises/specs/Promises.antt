@@ -51,7 +51,7 @@ left_by (as_text text) before = before
 
 -- ---- 1. "The answer to every sheet and every set of slices is a numbered refusal with all lent memory untouched, or a full verdict"
 pub record IsRefusal (i : Input) (number : ℕ) : Type 0 where
-  pub one_of_twelve : (1 ≤ number) × (number ≤ 12)
+  pub numbered : (1 ≤ number) × (number ≤ 12)
   pub answer_is : answer_to i ≡ Err number
   pub untouched : (before : Lent) → left_by i before ≡ before
 
