@@ -32,7 +32,8 @@ columns_within structurals slack columns below fine k less =
           omega (
             arith,
             ltb-true (get_or columns k 0) structurals
-                (and_left (ltb (get_or columns k 0) structurals) (ltb (get_or columns k 0) (get_or columns (k + 1) 0)) (all_at (column_fine_at structurals columns) (length columns - 1) h.1.0 k before)),
+                (and_left (ltb (get_or columns k 0) structurals) (ltb (get_or columns k 0) (get_or columns (k + 1) 0))
+                (all_at (column_fine_at structurals columns) (length columns - 1) h.1.0 k before)),
           )
     ]
 
@@ -50,7 +51,8 @@ module _ (s : Sheet) (accepted : Accepted s) where
   row_within r less k below =
       omega (
         arith,
-        columns_within s.structurals (slack_of s.structurals r) (row_columns (system_of s) r) (omega arith) (all_at (row_columns_fine_at s.structurals s.starts s.columns) s.rows all.columns_are_fine r less) k below,
+        columns_within s.structurals (slack_of s.structurals r) (row_columns (system_of s) r) (omega arith)
+            (all_at (row_columns_fine_at s.structurals s.starts s.columns) s.rows all.columns_are_fine r less) k below,
       )
 
   pub lie : RowsLie s.rows s.entry_count s.starts

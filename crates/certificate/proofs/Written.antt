@@ -55,7 +55,8 @@ module _ {count : ℕ} (columns : List ℕ) (entries : List Float) (within : Wit
       let s = long_same (after_terms_same y columns entries n l) long in
       let w = within n (omega arith) in
       ap (with_term y (get_or columns n 0) (get_or entries n nan)) (terms_beyond y n (omega arith) l rest long)
-      ∙ term_beyond y (get_or columns n 0) (get_or entries n nan) (after_terms y columns entries n l) rest (omega (arith, s.in_high)) (omega (arith, s.in_low)) (omega (arith, s.in_magnitudes)) (omega (arith, s.in_terms))
+      ∙ term_beyond y (get_or columns n 0) (get_or entries n nan) (after_terms y columns entries n l) rest (omega (arith, s.in_high)) (omega (arith, s.in_low))
+      (omega (arith, s.in_magnitudes)) (omega (arith, s.in_terms))
 
   kept_beyond : (m : Multiplier) (l rest : Lists) → Long count l → kept_into m columns entries (beyond l rest) ≡ beyond (kept_into m columns entries l) rest
   unfolding kept_into
@@ -71,7 +72,9 @@ module _ {count : ℕ} (columns : List ℕ) (entries : List Float) (within : Wit
       let before = after_errors distance basic columns entries n e in
       let less : get_or columns n 0 < length before = omega (arith, within n (omega arith), after_errors_same distance basic columns entries n e) in
       ap (with_error distance basic (get_or columns n 0) (get_or entries n nan)) (errors_beyond distance basic n (omega arith) e rest long)
-      ∙ rw (get_or-append before rest nan (get_or columns n 0) less) (share_beyond (is_set (get_or basic (get_or columns n 0) 0)) before rest (get_or columns n 0) (get_or before (get_or columns n 0) nan ⊕ distance ⊗ absolute (get_or entries n nan)) less)
+      ∙ rw (get_or-append before rest nan (get_or columns n 0) less)
+      (share_beyond (is_set (get_or basic (get_or columns n 0) 0)) before rest (get_or columns n 0)
+      (get_or before (get_or columns n 0) nan ⊕ distance ⊗ absolute (get_or entries n nan)) less)
 
   spread_beyond : (s : Option Float) (basic : List ℕ) (e rest : List Float) → count ≤ length e
       → spread_into s basic columns entries (e ++ rest) ≡ spread_into s basic columns entries e ++ rest
@@ -131,7 +134,8 @@ module _ (m : System) where
       ap (λ (s : Option Float). spread_into s m.basic (row_columns m n) (row_entries m n) (after_rows m n c).errors) (no_spread n e) ∙ errors_stay n c e
 
   rows_alone : (n : ℕ) (l : Lists) (e f : List Float)
-      → ((after_rows m n (certificate l e no_sums)).lists_of ≡ (after_rows m n (certificate l f no_sums)).lists_of) × ((after_rows m n (certificate l e no_sums)).sums_of ≡ (after_rows m n (certificate l f no_sums)).sums_of)
+      → ((after_rows m n (certificate l e no_sums)).lists_of ≡ (after_rows m n (certificate l f no_sums)).lists_of)
+      × ((after_rows m n (certificate l e no_sums)).sums_of ≡ (after_rows m n (certificate l f no_sums)).sums_of)
   unfolding after_rows with_row
   rows_alone zero l e f = (refl, refl)
   rows_alone (suc n) l e f =

@@ -83,13 +83,15 @@ entry_clear structurals values v coeff a h = go (ltb v structurals)
     go true = (add-fits binary64 a.magnitude _, add_clear a.magnitude (absolute (coeff ⊗ get_or values v nan)) h.1 (absolute_clear (coeff ⊗ get_or values v nan)))
     go false = h
 
-entries_clear : (structurals : ℕ) (values : List Float) (columns : List ℕ) (entries : List Float) (n : ℕ) (a : Activity) → Clear a.magnitude → Clear (after_entries structurals values columns entries n a).magnitude
+entries_clear : (structurals : ℕ) (values : List Float) (columns : List ℕ) (entries : List Float) (n : ℕ) (a : Activity) → Clear a.magnitude
+    → Clear (after_entries structurals values columns entries n a).magnitude
 unfolding after_entries
 entries_clear structurals values columns entries zero a h = h
 entries_clear structurals values columns entries (suc n) a h =
     entry_clear structurals values (get_or columns n 0) (get_or entries n nan) (after_entries structurals values columns entries n a) (entries_clear structurals values columns entries n a h)
 
-pub magnitude_clear : (structurals : ℕ) (right_side : Float) (columns : List ℕ) (entries values : List Float) → T (fits binary64 right_side) → Clear (row_activity structurals right_side columns entries values).magnitude
+pub magnitude_clear : (structurals : ℕ) (right_side : Float) (columns : List ℕ) (entries values : List Float) → T (fits binary64 right_side)
+    → Clear (row_activity structurals right_side columns entries values).magnitude
 unfolding row_activity
 magnitude_clear structurals right_side columns entries values h =
     entries_clear structurals values columns entries (length columns) (activity plus_zero (absolute right_side)) (absolute-fits right_side h, absolute_clear right_side)
@@ -219,7 +221,8 @@ module _ (s : Sheet) (accepted : Accepted s) (doubles : Doubles s) where
     unfolding edge
     edge-holds = go (finite bound) (eqb v leaving) (holds_on_bounds s.structurals s.integer s.mins s.maxs v) refl
       where
-        go : (f l h : Bool) → finite bound ≡ f → EdgeHolds bound up (cond f (cond l (band_edge bound (toward (tols_of (model_of s) v) up) up) (cond h bound (band_edge bound (widening_room (model_of s) v up) up))) bound)
+        go : (f l h : Bool) → finite bound ≡ f
+            → EdgeHolds bound up (cond f (cond l (band_edge bound (toward (tols_of (model_of s) v) up) up) (cond h bound (band_edge bound (widening_room (model_of s) v up) up))) bound)
         go false l h e = stays bound up bound_fits bound_no_nan
         go true true h e = banded bound (toward (tols_of (model_of s) v) up) up bound_fits (subst T (sym e) tt) (tolerance_room v less up)
         go true false true e = stays bound up bound_fits bound_no_nan

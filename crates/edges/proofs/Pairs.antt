@@ -53,10 +53,17 @@ module _ (m : Model) (leaving v : ℕ) (up : Bool) (other : v ≡ leaving → �
   held_edge t = go (finite (bound_of m v up))
     where
       go : (f : Bool)
-          → bound_of m v up ≡ cond f (cond (eqb v leaving) (band_edge (bound_of m v up) (toward (tols_of m v) up) up) (cond (holds_on_bounds m.structurals m.integer m.mins m.maxs v) (bound_of m v up) (band_edge (bound_of m v up) (widening_room m v up) up))) (bound_of m v up)
+          → bound_of m v up
+          ≡ cond f
+          (cond (eqb v leaving) (band_edge (bound_of m v up) (toward (tols_of m v) up) up)
+          (cond (holds_on_bounds m.structurals m.integer m.mins m.maxs v) (bound_of m v up) (band_edge (bound_of m v up) (widening_room m v up) up)))
+          (bound_of m v up)
       go true = when_false _ (when_true _ refl (sym held ∙ t)) (ne_eqb v leaving other)
       go false = refl
 
   pub moved_edge : {t r : Float} → h ≡ false → t ≡ widening_room m v up → r ≡ cond (finite (bound_of m v up)) (band_edge (bound_of m v up) t up) (bound_of m v up) → r ≡ edge m leaving v up
   unfolding edge
-  moved_edge {t} {r} f room e = e ∙ ap (λ (x : Float). cond (finite (bound_of m v up)) x (bound_of m v up)) (when_false _ (when_false _ (ap (λ (x : Float). band_edge (bound_of m v up) x up) room) (sym held ∙ f)) (ne_eqb v leaving other))
+  moved_edge {t} {r} f room e =
+      e
+      ∙ ap (λ (x : Float). cond (finite (bound_of m v up)) x (bound_of m v up))
+      (when_false _ (when_false _ (ap (λ (x : Float). band_edge (bound_of m v up) x up) room) (sym held ∙ f)) (ne_eqb v leaving other))

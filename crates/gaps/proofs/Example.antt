@@ -9,6 +9,7 @@ use Prim.Native.Nat.{ℕ, zero, suc, ◌*◌, ◌^◌, ◌<◌}
 use lib.IntN.{pos}
 use lib.ListN.{get_or}
 use lib.Ieee.{Float, inf, fin, lt, eq, is_nan, neg, of_bits, size}
+use Rattle.std.specs.Prelude.{⊤}
 use Rattle.exact.specs.Value.{exact, magnitude}
 use Rattle.exact.specs.Integers.{Σ<}
 use Rattle.rank_arithmetic.specs.Rank.{rank, rank_down, rank_up}
@@ -45,12 +46,20 @@ at_both P first second zero less = first
 at_both P first second (suc zero) less = second
 at_both P first second (suc (suc v)) less = absurd (omega arith)
 
+unfoldable steps_compute : ⊤
+unfolding after_entries with_row coefficient_after limited term with_term largest with_right_side right_side difference outward_gap finite_parts
+steps_compute = tt
+
 -- the sheet; "Right side 1 in the sheet"; "its max +infinity"
-pub outward_gaps : outward_gap kept (rows (whole 3)) (ranges (whole 1)) ∷ outward_gap kept (rows (whole 1)) (ranges (whole 1)) ∷ outward_gap kept (rows (whole 3)) (ranges (inf false)) ∷ [] ≡ fin false 1 (pos 1) ∷ plus_zero ∷ inf true ∷ []
-unfolding after_entries with_row coefficient_after limited term with_term largest with_right_side right_side difference outward_gap finite_parts all_below exact magnitude rank rank_down rank_up round_up round_down sum_with product_with larger lt eq is_nan neg of_bits size
+pub outward_gaps :
+    outward_gap kept (rows (whole 3)) (ranges (whole 1)) ∷ outward_gap kept (rows (whole 1)) (ranges (whole 1)) ∷ outward_gap kept (rows (whole 3)) (ranges (inf false)) ∷ []
+    ≡ fin false 1 (pos 1) ∷ plus_zero ∷ inf true ∷ []
+unfolding steps_compute all_below exact magnitude rank rank_down rank_up round_up round_down sum_with product_with larger lt eq is_nan neg of_bits size
 outward_gaps = refl
 
-pub exact_gaps : exact_gap kept (rows (whole 3)) (ranges (whole 1)) ∷ exact_gap kept (rows (whole 1)) (ranges (whole 1)) ∷ exact_gap kept (rows (whole 3)) (ranges (inf false)) ∷ [] ≡ some (pos (2 * 2 ^ 3222)) ∷ some (pos 0) ∷ none ∷ []
+pub exact_gaps :
+    exact_gap kept (rows (whole 3)) (ranges (whole 1)) ∷ exact_gap kept (rows (whole 1)) (ranges (whole 1)) ∷ exact_gap kept (rows (whole 3)) (ranges (inf false)) ∷ []
+    ≡ some (pos (2 * 2 ^ 3222)) ∷ some (pos 0) ∷ none ∷ []
 unfolding multiplier entry coefficient combined_right_side taken largest_value exact_gap in_units finite_parts all_below exact magnitude Σ<
 exact_gaps = refl
 

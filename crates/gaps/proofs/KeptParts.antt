@@ -1,15 +1,13 @@
 -- The parts of a kept multiplier of a sheet are doubles, whatever its rho is. Assumes nothing.
-use mathlib.Core.Path.{◌≡◌, sym, subst}
-use mathlib.Core.Bool.{Bool, true, false, cond, ◌&&◌, ◌||◌}
+use mathlib.Core.Path.{◌≡◌, subst}
+use mathlib.Core.Bool.{Bool, true, false, cond}
 use Prim.Native.Nat.{ℕ}
 use lib.Dec.{T}
-use lib.Ieee.{binary64, fits, le, eq}
+use lib.Ieee.{binary64, fits}
 use lib.Ieee.Fits.{add-fits}
-use Rattle.doubles.specs.Compare.{absolute}
 use Rattle.cdouble.specs.declared.CDouble.{CDouble}
-use Rattle.cdouble.specs.Compensated.{normalized, two_sum, plus_zero, value}
+use Rattle.cdouble.specs.Compensated.{normalized, two_sum}
 use Rattle.sheet.specs.Sheet.{Sheet}
-use Rattle.multipliers.specs.declared.weighing.Multiplier.{Multiplier}
 use Rattle.multipliers.specs.declared.weighing.Multiplier.TheVariants.{Zeroed, Dropped, Kept}
 use Rattle.multipliers.specs.Multipliers.{signed, weighed}
 use Rattle.certificate.specs.System.{system_of, signed_at}

@@ -1,9 +1,8 @@
 -- A point that lies in ranges lies in wider ones. Assumes nothing.
-use mathlib.Core.Path.{◌≡◌, refl}
 use mathlib.Core.Logic.{inl, inr}
 use mathlib.Core.Bool.{true, false}
 use Prim.Native.Nat.{ℕ, ◌<◌}
-use lib.IntN.{ℤ, pos, ◌*ℤ◌}
+use lib.IntN.{ℤ}
 use lib.Dec.{T}
 use lib.Ieee.{Float, nan, inf, fin, binary64, fits, lt, le, eq}
 use Rattle.exact.specs.Value.{exact}
@@ -11,7 +10,7 @@ use Rattle.exact.specs.Integers.{◌≼◌, ◌≺◌}
 use Rattle.exact.proofs.Order.{≼_trans, ≺_not_≼, ≼_or_≺}
 use Rattle.exact.proofs.Compare.{le-exact}
 use Rattle.gaps.specs.Rows.{Ranges}
-use Rattle.gaps.specs.Points.{Point, in_units, IsBelow, IsAbove, Lies}
+use Rattle.gaps.specs.Points.{Point, IsBelow, IsAbove, Lies}
 use Rattle.gaps.specs.Sameness.{Within}
 use Rattle.gaps.proofs.Sides.{scale_mono}
 

@@ -98,6 +98,7 @@ module _ (count : ℕ) (columns : List ℕ) (entries lower upper : List Float) w
   row_left Dropped other = record { low = unchanged count lower; high = unchanged count upper }
   row_left (Kept y) other = absurd (other y refl)
 
-  pub row_kept : {m : Multiplier} {y : CDouble} {l u : List Float} → m ≡ Kept y → Ends count (λ sum product v. after_entries sum product y columns entries v (length columns)) lower upper l u → ByRow m l u
+  pub row_kept : {m : Multiplier} {y : CDouble} {l u : List Float} → m ≡ Kept y
+      → Ends count (λ sum product v. after_entries sum product y columns entries v (length columns)) lower upper l u → ByRow m l u
   unfolding with_row
   row_kept {l = l} {u = u} is ends = subst (λ (k : Multiplier). ByRow k l u) (sym is) ends

@@ -58,7 +58,9 @@ module _ (kept : KeptRows) (m : Rows) (g : Ranges) where
   gap_infinite {fine} is t = rw (sym is ∙ not-true fine t) refl
 
   -- M is +infinity where a variable is not limited, and then the difference is −infinity
-  either_way : (b : Bool) → difference (right_side kept m m.count) (cond b (largest (cl kept m) (cu kept m) g m.variables) (inf false)) ≡ cond b (difference (right_side kept m m.count) (largest (cl kept m) (cu kept m) g m.variables)) (inf true)
+  either_way : (b : Bool)
+      → difference (right_side kept m m.count) (cond b (largest (cl kept m) (cu kept m) g m.variables) (inf false))
+      ≡ cond b (difference (right_side kept m m.count) (largest (cl kept m) (cu kept m) g m.variables)) (inf true)
   unfolding difference eq
   either_way true = refl
   either_way false = rw or-true refl

@@ -1,11 +1,10 @@
 -- A book that can be baked, in halves, by computation: what a bake is asks for no more than it should. Assumes nothing.
 use native.Mathlib.Omega.{arith}
-use mathlib.Core.Path.{◌≡◌, refl}
+use mathlib.Core.Path.{refl}
 use mathlib.Core.List.{[], ◌∷◌}
 use Prim.Native.Nat.{ℕ, zero, suc, ◌<◌}
 use lib.IntN.{pos}
 use lib.ListN.{get_or}
-use lib.Ieee.{Float}
 use Rattle.exact.specs.Value.{exact, magnitude}
 use Rattle.exact.specs.Integers.{Σ<}
 use Rattle.questions.specs.Rows.{part}

@@ -7,7 +7,6 @@ use mathlib.Core.List.{List}
 use Prim.Native.Nat.{ℕ, zero, suc, ◌≤◌}
 use borrow.Author.Tests.{eq-eqb, ne_eqb}
 use lib.Dec.{T, eqb}
-use lib.Ieee.Bits.{is_true}
 use Rattle.std.specs.Prelude.{IfOk, Result, Ok, Err}
 use Rattle.cdouble.proofs.Contracts.{when_true, when_false}
 use Rattle.sheet.specs.Sheet.{Sheet, Doubles}
@@ -23,7 +22,7 @@ use Rattle.sheet_text.specs.SheetIn.{sheet_in}
 use Rattle.sheet_text.proofs.Doubles.{text_of_doubles}
 use Rattle.weigh_text.specs.TextVerdict.{text_verdict}
 use Rattle.weigh_text.proofs.Answering.{formed_promised, formed_verdict}
-use Rattle.promises.specs.Promises.{Input, in_slices, as_text, sheet_of, IsAccepted, answer_to, left_by, IsRefusal, IsFull}
+use Rattle.promises.specs.Promises.{Input, in_slices, as_text, sheet_of, IsAccepted, answer_to, IsRefusal, IsFull}
 
 -- ---- the numbers of the questions
 ask_few : (b : Bool) (n later : ℕ) → n ≤ 12 → later ≤ 12 → ask b n later ≤ 12

@@ -1,5 +1,5 @@
 -- The promises, each by citing. Assumes nothing.
-use mathlib.Core.Path.{◌≡◌, refl, ap, sym, subst, ◌∙◌}
+use mathlib.Core.Path.{◌≡◌, refl, ap, sym, subst}
 use mathlib.Core.Bool.{◌&&◌}
 use mathlib.Core.List.{[]}
 use Rattle.std.specs.Prelude.{Ok}
@@ -9,10 +9,9 @@ use lib.Ieee.Fits.{and_r}
 use Rattle.cdouble.specs.Compensated.{plus_zero}
 use Rattle.cdouble.proofs.TwoSum.{two_sum_exact}
 use Rattle.cdouble.proofs.TwoProduct.{two_product_exact}
-use Rattle.judgement.specs.declared.gap.Proof.{Proof}
-use Rattle.sheet.specs.Sheet.{Sheet, Doubles}
+use Rattle.sheet.specs.Sheet.{Sheet}
 use Rattle.sheet.specs.Answers.{Accepted}
-use Rattle.kept.specs.Kept.{Lent, after, filled_in, lent, proof_of}
+use Rattle.kept.specs.Kept.{Lent, lent, proof_of}
 use Rattle.kept.proofs.Whole.{after_full}
 use Rattle.certificate.specs.Added.{lists}
 use Rattle.gaps.specs.Rows.{kept_of, rows_of, ranges_of}

@@ -95,7 +95,8 @@ module _ {rows : ℕ} {basic places counts₀ : List ℕ} (asked : Tally rows ba
     next less e = record { within = omega arith; so_far = rw add-one (e ∙ ap (counted (get_or basic v 0) (get_or places v 0)) turn.so_far) }
 
 -- ---- the counts are 1 where just one variable holds the place
-pub ones : {rows : ℕ} {basic places counts₀ counts : List ℕ} → Tally rows basic places counts₀ → counts ≡ tallied basic places (length basic) counts₀ → all_below rows (one_at counts) ≡ all_below rows (held_once_at basic places)
+pub ones : {rows : ℕ} {basic places counts₀ counts : List ℕ} → Tally rows basic places counts₀ → counts ≡ tallied basic places (length basic) counts₀
+    → all_below rows (one_at counts) ≡ all_below rows (held_once_at basic places)
 ones {rows} {basic} {places} {counts₀} {counts} asked e =
     all_same (one_at counts) (held_once_at basic places) rows
     (λ p less.

@@ -1,6 +1,6 @@
 -- Of the widened list the verdict rests on two things: whether the eleventh question passes, and which sides of which variables it holds. So two
 -- lists that agree in these get one verdict, and leave what is lent alike. Assumes nothing.
-use mathlib.Core.Path.{◌≡◌, refl, ap, sym, subst, ◌∙◌}
+use mathlib.Core.Path.{◌≡◌, refl, ap}
 use mathlib.Core.Bool.{Bool, true, false, cond}
 use mathlib.Core.List.{List}
 use Prim.Native.Nat.{ℕ, zero, suc}
@@ -14,21 +14,19 @@ use Rattle.sheet.specs.Sheet.{Sheet, variables, Doubles}
 use Rattle.sheet.specs.Lengths.{lengths_fit, lengths_fine}
 use Rattle.sheet.specs.Answers.{Accepted, ask, first_no}
 use Rattle.sheet.proofs.Accepted.{all_yes}
-use Rattle.edges.specs.Model.{Model, model_of}
+use Rattle.edges.specs.Model.{model_of}
 use Rattle.edges.specs.Edges.{edge, leaving_variable}
 use Rattle.edges.specs.Rooms.{widening_room}
 use Rattle.certificate.specs.Certificate.{Certificate}
 use Rattle.certificate.specs.System.{system_of}
 use Rattle.walk.specs.declared.states.Coefficient.{Coefficient}
 use Rattle.walk.specs.declared.states.Walk.{Walk}
-use Rattle.walk.specs.declared.states.Walked.{Walked}
 use Rattle.walk.specs.Step.{coefficient_at, step}
 use Rattle.walk.specs.Walk.{onward, walk_over}
-use Rattle.judgement.specs.declared.gap.Proof.{Proof}
 use Rattle.judgement.specs.Cut.{cut_at, leaving_slack_cut}
 use Rattle.judgement.specs.Judgement.{judged, judgement}
 use Rattle.kept.specs.Kept.{Lent, after, certificate_of, filled_in, proof_of}
-use Rattle.gaps.specs.Rows.{Ranges, kept_of, ranges_of, rows_of}
+use Rattle.gaps.specs.Rows.{kept_of, ranges_of, rows_of}
 use Rattle.gaps.specs.Steps.{outward_gap, outward_of}
 use Rattle.verdict.specs.Verdict.{full_verdict, verdict, with_outward}
 use Rattle.same_widened.specs.Interchangeable.{Interchangeable, has_size, with_widened}

@@ -48,11 +48,15 @@ pub record RowsHold (rows n : ℕ) (starts columns : List ℕ) (entries right_si
   pub rho_lo_long : length rho_lo ≡ rows
   pub second_long : length second ≡ rows
 
-pub rows_hold : (rows n : ℕ) (starts columns : List ℕ) (entries right_sides scales rho_hi rho_lo second : List Float) → rows_fit rows n starts columns entries right_sides scales rho_hi rho_lo second ≡ true
+pub rows_hold : (rows n : ℕ) (starts columns : List ℕ) (entries right_sides scales rho_hi rho_lo second : List Float)
+    → rows_fit rows n starts columns entries right_sides scales rho_hi rho_lo second ≡ true
     → RowsHold rows n starts columns entries right_sides scales rho_hi rho_lo second
 unfolding rows_fit
 rows_hold rows n starts columns entries right_sides scales rho_hi rho_lo second e =
-    let h = each (eqb (length starts) (rows + 1)) (eqb (length columns) (n) ∷ eqb (length entries) (n) ∷ eqb (length right_sides) (rows) ∷ eqb (length scales) (rows) ∷ eqb (length rho_hi) (rows) ∷ eqb (length rho_lo) (rows) ∷ eqb (length second) (rows) ∷ []) e in
+    let h =
+    each (eqb (length starts) (rows + 1))
+    (eqb (length columns) n ∷ eqb (length entries) n ∷ eqb (length right_sides) rows ∷ eqb (length scales) rows
+    ∷ eqb (length rho_hi) rows ∷ eqb (length rho_lo) rows ∷ eqb (length second) rows ∷ []) e in
     record {
       starts_long = eqb-true (length starts) (rows + 1) h.0;
       columns_long = eqb-true (length columns) (n) h.1.0;
@@ -78,7 +82,10 @@ pub variables_hold : (count : ℕ) (mins maxs low high : List Float) (basic plac
     → VariablesHold count mins maxs low high basic places values
 unfolding variables_fit
 variables_hold count mins maxs low high basic places values e =
-    let h = each (eqb (length mins) (count)) (eqb (length maxs) (count) ∷ eqb (length low) (count) ∷ eqb (length high) (count) ∷ eqb (length basic) (count) ∷ eqb (length places) (count) ∷ eqb (length values) (count) ∷ []) e in
+    let h =
+    each (eqb (length mins) count)
+    (eqb (length maxs) count ∷ eqb (length low) count ∷ eqb (length high) count ∷ eqb (length basic) count
+    ∷ eqb (length places) count ∷ eqb (length values) count ∷ []) e in
     record {
       mins_long = eqb-true (length mins) (count) h.0;
       maxs_long = eqb-true (length maxs) (count) h.1.0;

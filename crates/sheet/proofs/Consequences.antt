@@ -140,10 +140,13 @@ module _ (s : Sheet) (all : AllYes s) where
       range_parts (get_or s.mins v nan) (get_or s.maxs v nan) (all_at (range_fine_at s.mins s.maxs) (length s.mins) all.bounds_are_fine v (omega (arith, by_variable.mins_long)))
 
   -- 8: tolerances, feasibility and scales
-  tolerance_parts : (all_plain s.low_tolerances ≡ true) × Each (all_plain s.high_tolerances ∷ plain s.feasibility ∷ all_plain s.scales ∷ all_below (length s.scales) (product_finite_at s.feasibility s.scales) ∷ [])
+  abbrev later_parts : List Bool
+  later_parts =
+      all_plain s.high_tolerances ∷ plain s.feasibility ∷ all_plain s.scales ∷ all_below (length s.scales) (product_finite_at s.feasibility s.scales) ∷ []
+
+  tolerance_parts : (all_plain s.low_tolerances ≡ true) × Each later_parts
   unfolding tolerances_fine
-  tolerance_parts =
-      each (all_plain s.low_tolerances) (all_plain s.high_tolerances ∷ plain s.feasibility ∷ all_plain s.scales ∷ all_below (length s.scales) (product_finite_at s.feasibility s.scales) ∷ []) all.tolerances_are_fine
+  tolerance_parts = each (all_plain s.low_tolerances) later_parts all.tolerances_are_fine
 
   pub low_plain : (v : ℕ) → v < variables s → Plain (get_or s.low_tolerances v nan)
   low_plain v less = plain_at_lem s.low_tolerances tolerance_parts.0 v (omega (arith, by_variable.low_long))

@@ -7,7 +7,7 @@ use mathlib.Core.Bool.{Bool, true, false, cond}
 use borrow.Author.Tests.{eqb-true, ne_eqb}
 use lib.Dec.{eqb}
 use Rattle.std.specs.Prelude.{Result, Ok, Err}
-use Rattle.std.specs.Result.{IfOk, IsErrAnd}
+use Rattle.std.specs.Result.{IsErrAnd}
 use Rattle.std.proofs.lemmas.Result.{err_from_is_err_and}
 use lib.ListN.{get_or}
 use Rattle.sheet.specs.declared.numbers.Refusal.{Refusal}
@@ -70,8 +70,3 @@ chosen false n is = (cc, cc)
 
 pub ok_says : {A : Type 0} (n : ℕ) {x y : A} → Ok y ≡ answered n x → (n ≡ 0) × (y ≡ x)
 ok_says n is = let h = chosen (eqb n 0) n is in (eqb-true n 0 h.0, h.1)
-
--- what holds of the value holds of it beside the number
-pub ok_numbered : {A : Type 0} (P : A → Type 0) (r : Result A Refusal) → IfOk r P → IfOk (numbered r) P
-ok_numbered P (Ok x) holds = holds
-ok_numbered P (Err refusal) holds = holds

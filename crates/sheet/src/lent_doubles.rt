@@ -1,17 +1,18 @@
 //! The numbers of a lent sheet are doubles.
+ghost use Rattle.sheet.specs.declared.answers.Outputs.{Outputs};
 ghost use Rattle.sheet.specs.Lent.{lent_sheet};
 ghost use Rattle.sheet.specs.Sheet.{AllDoubles, Doubles};
 
-use crate::{Outputs, Sheet};
+use crate::Sheet;
 
 /// The numbers of a lent slice are doubles, as its type says. A proof learns it by this call, which does nothing.
 fn slice_of_doubles(xs: &[f64])
     ensures { AllDoubles xs.now }
 {}
 
-/// So are those of the sheet.
-pub fn sheet_of_doubles(s: &Sheet, outputs: Outputs)
-    ensures { Doubles (lent_sheet s.now outputs) }
+/// So are those of the sheet, however many places are lent for outputs.
+pub fn sheet_of_doubles(s: &Sheet)
+    ensures { (outputs : Outputs) → Doubles (lent_sheet s.now outputs) }
 {
     slice_of_doubles(s.entries);
     slice_of_doubles(s.right_sides);

@@ -8,7 +8,6 @@ use lib.Ieee.Bits.{of_bits-fits}
 use Rattle.std.specs.Prelude.{Option}
 use Rattle.sheet.specs.Sheet.{AllDoubles, Doubles}
 use Rattle.repeats.proofs.Each.{each_run, each_chain, each_gathered}
-use Rattle.text_items.specs.declared.words.Item.{Item}
 use Rattle.text_items.specs.Numbers.{double}
 use Rattle.text_items.specs.Words.{expect}
 use Rattle.text_items.specs.Text.{bytes}

@@ -11,7 +11,6 @@ ghost use Rattle.widened_records.specs.Records.{ups_of, variables_of};
 ghost use Rattle.same_widened.specs.Interchangeable.{with_widened};
 
 use certificate::Lists;
-use kept::outputs_of;
 use sheet::{Refusal, Sheet, sheet_of_doubles};
 use verdict::Verdict;
 use widened_records::{Widened, search};
@@ -31,7 +30,7 @@ pub fn sheet_verdict(
         Promised whole (lent (lent_lists l.old) errors.old) (lent (lent_lists l.new) errors.new) (numbered result)) }
     ensures same_slices { SameSlices l.old l.new }
 {
-    sheet_of_doubles(s, outputs_of(l, errors));
+    sheet_of_doubles(s);
     let found = search(widened, s.rows, s.structurals);
     verdict_found(&found, s, l, errors)
 }

@@ -2,8 +2,6 @@
 use mathlib.Core.Path.{◌≡◌, refl, ap, sym, subst, ◌∙◌}
 use mathlib.Core.Bool.{Bool, true, false, cond}
 use Prim.Native.Nat.{ℕ}
-use native.Mathlib.Omega.{arith}
-use borrow.Author.Tests.{eq-eqb, eqb-true}
 use lib.Dec.{T, eqb}
 use lib.Ieee.{lt}
 use Rattle.std.specs.Prelude.{IfOk, Result, Ok, Err}
@@ -11,9 +9,8 @@ use Rattle.cdouble.specs.Compensated.{plus_zero}
 use Rattle.sheet.specs.Sheet.{Sheet}
 use Rattle.sheet.specs.Answers.{first_no}
 use Rattle.kept.specs.Kept.{Lent, after}
-use Rattle.gaps.specs.Rows.{ranges_of, rows_of}
 use Rattle.gaps.specs.ExactGap.{exact_of}
-use Rattle.gaps.specs.ThirdDemand.{NotAbove, NoPoint}
+use Rattle.gaps.specs.ThirdDemand.{NotAbove}
 use Rattle.verdict.specs.declared.Verdict.{Verdict as Full}
 use Rattle.verdict.specs.Verdict.{full_verdict, verdict as library_verdict}
 use Rattle.verdict.specs.Promised.{Promised as LibraryPromised}

@@ -41,7 +41,7 @@ pub fn verdict_of(s: &Sheet, l: &mut Lists, errors: &mut [f64]) -> Result<Verdic
     ensures same_slices { SameSlices l.old l.new }
 {
     let outputs = outputs_of(l, errors);
-    sheet_of_doubles(s, outputs);
+    sheet_of_doubles(s);
     first_no(s, outputs)?;
     let outward = gap_of(s, outputs);
     Ok(with_outward(weighed(s, l, errors), outward))

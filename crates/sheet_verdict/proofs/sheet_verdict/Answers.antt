@@ -1,8 +1,4 @@
 -- `sheet_verdict` meets its contract: what is said of a sheet whose list was searched is said of the sheet with its records. Assumes nothing.
-use mathlib.Core.Path.{subst}
-use Rattle.sheet.specs.declared.answers.Outputs.{Outputs}
-use Rattle.sheet.specs.Lent.{lent_sheet}
-use Rattle.sheet.specs.Sheet.{Doubles}
 use Rattle.certificate.specs.Lent.{lent_lists}
 use Rattle.kept.specs.Kept.{lent, sheet_lent}
 use Rattle.sheet_verdict.proofs.Same.{entry_says}
@@ -13,7 +9,6 @@ returns c =
     record {
       promised =
           entry_says (sheet_lent c.args.s.now c.args.l.now c.args.errors.now) c.args.widened.now (lent (lent_lists c.args.l.now) c.args.errors.now)
-          c.search-found.ensures.value
-          (subst (λ (o : Outputs). Doubles (lent_sheet c.args.s.now o)) c.outputs_of.ensures c.sheet_of_doubles.ensures) c.verdict_found.ensures.promised;
+          c.search-found.ensures.value (c.sheet_of_doubles.ensures _) c.verdict_found.ensures.promised;
       same_slices = c.verdict_found.ensures.same_slices;
     }

@@ -9,7 +9,13 @@ pub returns-then-not-places_fine : goal.returns-then-not-places_fine
 returns-then-not-places_fine c = some_beyond c.args.rows c.args.basic.now c.args.places.now c.places_fine.ensures (ap not c.if-not-places_fine.true)
 
 pub held_once-requires : goal.held_once-requires
-held_once-requires c = record { same = c.requires.1; fine = none_beyond c.args.rows c.args.basic.now c.args.places.now c.places_fine.ensures (ap not c.if-not-places_fine.false); room = c.requires.0; zeros = λ p. get_d_replicate most_rows 0 p }
+held_once-requires c =
+    record {
+      same = c.requires.1;
+      fine = none_beyond c.args.rows c.args.basic.now c.args.places.now c.places_fine.ensures (ap not c.if-not-places_fine.false);
+      room = c.requires.0;
+      zeros = λ p. get_d_replicate most_rows 0 p;
+    }
 
 pub returns : goal.returns
 returns c = then_held c.args.rows c.args.basic.now c.args.places.now c.places_fine.ensures (ap not c.if-not-places_fine.false) c.held_once.ensures
