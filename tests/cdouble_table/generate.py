@@ -15,9 +15,10 @@ a double's bit pattern, or a count. Arguments and answers that an operation does
     A add_up a b                M mul_up a b                 D distance_up a b
     e compensated_error terms longest magnitude
 
-The answers are those of the machine's doubles, operation for operation in the Rust's order. Where more is promised, as
-that a pair is exact or an answer the least double not below, each is held to that by exact arithmetic; add and its kin
-and compensated_error, of which no more is promised, to a bound on their error. No table is written where one fails.
+The answers are those of the machine's doubles, operation for operation in the Rust's order, but for mul_up of finite
+factors: there exact arithmetic's, as request 5 of document 02 asks. Where more is promised, as that a pair is exact or
+an answer the least double not below, each is held to that by exact arithmetic; add and its kin and compensated_error,
+of which no more is promised, to a bound on their error. No table is written where one fails.
 """
 import math
 import os
@@ -60,6 +61,17 @@ def abs_up(hi, lo):
     return upper(*two_sum(-hi, -lo)) if hi + lo < 0.0 else upper(*two_sum(hi, lo))
 
 
+def mul_up(a, b):
+    """Of finite factors the least double not below the exact product, a zero +0; of others IEEE 754's product."""
+    if not finite(a, b):
+        return a * b
+    v, largest = Fraction(a) * Fraction(b), double(MAX)
+    if abs(v) > largest:
+        return math.inf if v > 0 else -largest
+    r = float(v)  # the nearest double, found in whole numbers
+    return (next_up(r) if r < v else r) + 0.0  # which makes -0 +0
+
+
 def compensated_error(terms, longest, magnitude):
     scale = max((float(longest) + 2.0) / 8.0, 1.0)
     return (float(terms) + 1.0) * scale * (16.0 * 4.930380657631324e-32) * magnitude
@@ -79,7 +91,7 @@ OPERATIONS = {
     'u': lambda hi, lo: (upper(*two_sum(hi, lo)),),
     'd': lambda hi, lo: (lower(*two_sum(hi, lo)),),
     'A': lambda a, b: (upper(*two_sum(a, b)),),
-    'M': lambda a, b: (upper(*two_product(a, b)),),
+    'M': lambda a, b: (mul_up(a, b),),
     'D': lambda a, b: (abs_up(*two_sum(a, -b)),),
     'e': lambda *a: (compensated_error(*a),),
 }
@@ -119,8 +131,8 @@ def is_exact(r, v):
 
 
 def is_up(r, v):
-    """r is the least double not below v."""
-    return finite(r) and Fraction(next_down(r)) < v <= Fraction(r)
+    """r is the least double not below v: past the greatest the infinity, and below the least finite one that one."""
+    return next_down(r) < v <= r  # Python compares a fraction with a double exactly
 
 
 def is_down(r, v):
@@ -175,7 +187,7 @@ PROMISES = {
     'u': (sum_range, lambda r, *a: is_up(*r, total(*a))),
     'd': (sum_range, lambda r, *a: is_down(*r, total(*a))),
     'A': (sum_range, lambda r, *a: is_up(*r, total(*a))),
-    'M': (product_range, lambda r, a, b: is_up(*r, Fraction(a) * Fraction(b))),
+    'M': (finite, lambda r, a, b: is_up(*r, Fraction(a) * Fraction(b)) and bits(*r) != minus(0)),
     'D': (sum_range, lambda r, a, b: is_up(*r, abs(total(a, -b)))),
     'e': (lambda terms, longest, magnitude: finite(magnitude), lambda r, *a: is_allowance(*r, *a)),
 }
@@ -183,17 +195,33 @@ PROMISES = {
 
 # ---- the arguments
 
-# the sums checked by hand in document 01, and compensated_error with a scale of 1 and of 9/8
+# the sums checked by hand in document 01, the product as request 5 has it, and compensated_error with a scale of 1 and
+# of 9/8
 HAND = [
     ('S', (ONE, power(-53)), (ONE, power(-53))),
     ('A', (ONE, power(-53)), (ONE + 1,)),
     ('A', (ONE, minus(power(-54))), (ONE,)),
     ('A', (MAX, MAX), (INF,)),
     ('P', (ONE + 1, ONE + 1), (ONE + 2, power(-104))),
-    ('M', (power(-600), power(-600)), (0,)),
+    ('M', (power(-600), power(-600)), (1,)),
     ('e', (5, 2, power(2)), (0x39F8 << 48,)),
     ('e', (1, 6, ONE), (power(-99),)),
     ('e', (1, 7, ONE), (power(-99, 1 << 49),)),
+]
+
+# the least number whose split overflows, so that the Rust has NaN for the error of a product with it
+OVERSPLIT = 0x7E3FFFFFFC000000
+
+# products worked out apart; the Rust has other bits for all but the fourth and the last
+STEPS = [
+    ('M', (1, power(-1)), (1,)),
+    ('M', (1, ONE + 1), (2,)),
+    ('M', (0x29261A9B14AF9BE1, 0x15DC3A8355F05374), (0x000000137FB2A377,)),
+    ('M', (ONE + 1, power(996, 1 << 51) + 1), (power(996, 1 << 51) + 3,)),
+    ('M', (minus(power(-600)), power(-600)), (0,)),
+    ('M', (ONE + 1, power(997) + 1), (power(997) + 3,)),
+    ('M', (power(512), power(512) - 1), (MAX,)),
+    ('M', (INF, 0), (NAN,)),
 ]
 
 
@@ -280,6 +308,27 @@ def hard_products():
         (power(-500) + 1, power(-500) + 1), (power(-511) + 1, power(-511)), (power(-530, 5), power(-530, 7)),
         (1, ONE + 1), (power(-537), power(-537)), (power(-537), power(-538)), (power(-600), power(-600)), (1, 1),
         (NORMAL, ONE - 1), (1, power(995)), (NORMAL - 1, power(995)),
+    ]
+
+
+def upward_products():
+    """Pairs that are hard to multiply upward, where the Rust errs and just beside; see both_signs."""
+    yield from [
+        # products about 2^-969 and below, whose error is kept, is lost, or is above 0 in the Rust and below in truth
+        (power(-484) - 1, power(-484) - 1), (power(-500) + 1, power(-500) - 1), (power(-500, 3), power(-500, 5)),
+        (0x29261A9B14AF9BE1, 0x15DC3A8355F05374),
+        # products just below the smallest normal number
+        (NORMAL - 1, ONE + 1), (power(-511) - 1, power(-511)),
+        # subnormals exact and inexact, and products about the smallest and half of it
+        (power(-530), power(-530)), (5, power(-1)), (1, power(-1)), (power(-537) + 1, power(-537)),
+        (power(-537) - 1, power(-537)),
+        # a factor just below those whose split overflows, and such factors, the error above 0 for one of the signs
+        (OVERSPLIT - 1, ONE - 1), (OVERSPLIT, ONE - 1), (OVERSPLIT, ONE + 1), (MAX, 3),
+        # exactly the greatest double but one, and a quarter of a step and half a step past the greatest
+        (power(512) - 2, power(512)), (power(511, 1 << 50), power(512, 0x9999999999999)),
+        (power(1000, 1 << 50), power(23, 0x9999999999999)), (power(1000, 1 << 51), power(23, 0x5555555555555)),
+        # a zero, and an infinity
+        (OVERSPLIT, 0), (INF, power(-600)),
     ]
 
 
@@ -383,9 +432,10 @@ def cases():
     special = [(a, b) for a in specials() for b in specials()]
     sums = special + list(both_signs(hard_sums())) + list(drawn_sums(draw))
     products = special + list(both_signs(hard_products())) + list(drawn_products(draw))
+    upward = products + [a for _, a, _ in STEPS] + list(both_signs(upward_products()))
     lone = [(a,) for a in singles(draw)]
     arguments = {
-        'H': lone, 'P': products, 'M': products, 'a': additions(draw), 'p': product_additions(draw),
+        'H': lone, 'P': products, 'M': upward, 'a': additions(draw), 'p': product_additions(draw),
         's': scaled_additions(draw), 'n': [(*a, *b) for a, b in zip(lone, lone[1:])], 'e': allowances(draw),
     }
     yield from ((letter, a) for letter, a, _ in HAND)
@@ -411,10 +461,10 @@ def line(letter, patterns):
 
 
 def lines():
-    for letter, patterns, right in HAND:
+    for letter, patterns, right in HAND + STEPS:
         found = line(letter, patterns).split()[6:]
         if [int(n, 16) for n in found] != [*right, *[0] * (2 - len(right))]:
-            sys.exit(f'{letter} {patterns} is {found}, which is not the sum done by hand')
+            sys.exit(f'{letter} {patterns} is {found}, which is not the answer worked out apart')
     yield from dict.fromkeys(line(letter, patterns) for letter, patterns in cases())
 
 
