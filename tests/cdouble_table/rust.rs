@@ -2,7 +2,8 @@
 //! as one. The script compare cuts that Rust out of its document, and says by CUT where it put it.
 //!
 //! Left out are the products of finite factors where request 5 of document 02 promises another than
-//! the Rust has. The table's answer must then be the promised one, worked out here once more.
+//! the Rust has. The table's answer to every such product must be the promised one, worked out here
+//! once more.
 #![allow(dead_code)]
 
 use std::cmp::Ordering;
@@ -92,22 +93,19 @@ fn least_not_below(a: f64, b: f64) -> f64 {
 
 const KINDS: [&str; 4] = ["vanished", "too small", "too large", "only in the sign of a zero"];
 
-/// How the Rust's answer to a line differs, where that line is to be left out.
-fn left_out(letter: &str, numbers: &[u64], rust: [u64; 2]) -> Option<usize> {
+/// What request 5 promises of a line, where it says more than the Rust.
+fn promised(letter: &str, numbers: &[u64]) -> Option<f64> {
     let [a, b] = [numbers[0], numbers[1]].map(f64::from_bits);
-    if letter != "M" || !a.is_finite() || !b.is_finite() || rust == numbers[5..] {
-        return None;
-    }
-    let promised = least_not_below(a, b);
-    if numbers[5..] != [promised.to_bits(), 0] {
-        return None;
-    }
-    let rust = f64::from_bits(rust[0]);
-    match rust.partial_cmp(&promised)? {
-        Ordering::Equal => Some(3),
-        _ if rust == 0.0 => Some(0),
-        Ordering::Less => Some(1),
-        Ordering::Greater => Some(2),
+    (letter == "M" && a.is_finite() && b.is_finite()).then(|| least_not_below(a, b))
+}
+
+/// How the Rust's product differs from the promised one.
+fn kind(rust: f64, promised: f64) -> usize {
+    match rust.partial_cmp(&promised) {
+        Some(Ordering::Equal) => 3,
+        _ if rust == 0.0 => 0,
+        Some(Ordering::Less) => 1,
+        _ => 2,
     }
 }
 
@@ -116,15 +114,19 @@ fn main() {
     for line in std::io::read_to_string(std::io::stdin()).unwrap().lines() {
         let (letter, rest) = line.split_once(' ').unwrap();
         let numbers: Vec<u64> = rest.split(' ').map(|n| u64::from_str_radix(n, 16).unwrap()).collect();
-        let answer = proof::table::answer(letter, &numbers);
-        if let Some(kind) = left_out(letter, &numbers, answer) {
-            left[kind] += 1;
-            continue;
+        let mut answer = proof::table::answer(letter, &numbers);
+        let mut whose = "Rust";
+        if let Some(promised) = promised(letter, &numbers) {
+            let rust = std::mem::replace(&mut answer, [promised.to_bits(), 0]);
+            if rust != answer {
+                left[kind(f64::from_bits(rust[0]), promised)] += 1;
+                whose = "request 5";
+            }
         }
-        compared += 1;
+        compared += (whose == "Rust") as u32;
         if answer != numbers[5..] {
             differ += 1;
-            println!("{line}: Rust has {:016X} {:016X}", answer[0], answer[1]);
+            println!("{line}: {whose} has {:016X} {:016X}", answer[0], answer[1]);
         }
     }
     println!("{compared} answers compared with those of the Rust, {differ} differ");

@@ -15,7 +15,8 @@ pub struct Verdict<C> {
     /// the solver reckons it; −infinity where the row has no largest value, NaN where a number on the way is not finite.
     pub gap: f64,
     /// What the gap is weighed against: how far the variables' rooms beyond their bounds carry the row, less the cut, and
-    /// the round-off of the sums.
+    /// the round-off of the sums. Each room is taken times its coefficient, rounded up whatever their size; where the
+    /// solver's own product is not, this is not the solver's allowance.
     pub allowance: f64,
     /// The round-off withheld from the room of a leaving slack; 0 where a structural variable leaves, or the gap is not
     /// finite.

@@ -1,15 +1,8 @@
 //! The sums that document 01 checks by hand on its sheet.
 #![cfg(feature = "alloc")]
 mod common;
-use common::{changed, refusal, sized};
+use common::{both, changed, refusal, sized};
 use ushnazar::*;
-
-/// Weighed in slices and as text, which agree.
-fn both(sheet: &Sheet) -> Verdict<()> {
-    let verdict = weigh(sheet).unwrap().with(());
-    assert_eq!(weigh_text(sheet.to_text().as_bytes()).verdict().unwrap(), verdict);
-    verdict
-}
 
 #[test]
 fn right_side_1_nothing_holds() {

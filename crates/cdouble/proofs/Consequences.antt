@@ -1,8 +1,11 @@
--- What exactness gives: `add_up`, `mul_up`, `rounded`, `abs_up` and `distance_up` are least not below, or greatest not above. Assumes nothing.
-use Rattle.std.proofs.Common.{◌≡◌, ℕ, ◌+◌, ◌^◌, ◌≤◌, Bool, true, false, cond, T, ℤ, pos, negsuc, ◌+ℤ◌, ◌-ℤ◌, ◌*ℤ◌, neg_ℤ, sym, refl, ap, ◌∙◌, subst, inl, inr, arith, lit<}
+-- What exactness gives: `add_up`, `rounded`, `abs_up` and `distance_up` are least not below, or greatest not above. And what `mul_up` gives, of factors
+-- of every size. Assumes nothing.
+use Rattle.std.proofs.Common.{◌≡◌, ◌⊎◌, true≢false, ℕ, ◌+◌, ◌^◌, ◌≤◌, Bool, true, false, cond, T, ℤ, pos, negsuc, ◌+ℤ◌, ◌-ℤ◌, ◌*ℤ◌, neg_ℤ, sym, refl, ap, ◌∙◌, subst, inl, inr, arith, lit<}
 use lib.IntN.{neg_ℤ-+ℤ}
-use lib.Ieee.{Float, nan, inf, fin, binary64, fits, neg, lt}
+use lib.Ieee.{Float, nan, inf, fin, binary64, unlike, fits, neg, add, sub, mul, lt}
+use lib.Dec.{eqb}
 use lib.Ieee.Fits.{neg-fits, add-fits, sub-fits, mul-fits}
+use lib.Ieee.Scale.{finite}
 use Rattle.exact.specs.Value.{magnitude, exact}
 use Rattle.exact.specs.Integers.{◌≼◌, ◌≺◌}
 use Rattle.exact.specs.Nearest.{to_nearest}
@@ -12,9 +15,13 @@ use Rattle.exact.proofs.Representable.{representable-zero, representable_pow}
 use Rattle.exact.proofs.Values.{exact-neg, finite-neg}
 use Rattle.exact.proofs.Nearest.{to_nearest_mono, to_nearest_same}
 use Rattle.exact.proofs.Compare.{lt_to, lt_of}
-use Rattle.doubles.specs.Directed.{IsUp}
+use Rattle.doubles.specs.Directed.{with_zero, round_up, product_with, IsUp}
+use Rattle.doubles.proofs.Bounding.{product_other}
+use Rattle.doubles.proofs.Ends.{product_up_law}
+use Rattle.doubles.proofs.Mirror.{up_zero}
+use Rattle.doubles.proofs.Rounding.{up_unique}
 use Rattle.cdouble.specs.declared.CDouble.{CDouble}
-use Rattle.cdouble.specs.Compensated.{plus_zero, two_sum, two_product, product_error, negated, normalized, value, upper, rounded, abs_up, add_up, mul_up, distance_up}
+use Rattle.cdouble.specs.Compensated.{◌⊖◌, ◌⊗◌, pair, plus_zero, two_sum, split, two_product, product_error, negated, normalized, value, upper, rounded, abs_up, add_up, mul_up, distance_up}
 use Rattle.cdouble.specs.Exactness.{AtMost, SumRange, ProductRange, IsExact, IsToward, abs_ℤ}
 use Rattle.cdouble.proofs.TwoSum.{two_sum_exact, two_sum_again}
 use Rattle.cdouble.proofs.TwoProduct.{two_product_exact}
@@ -26,7 +33,7 @@ magnitude-neg nan = refl
 magnitude-neg (inf s) = refl
 magnitude-neg (fin s m e) = refl
 
--- ---- sums and products
+-- ---- sums
 pub sum-upper : (a b : Float) (z : ℤ) → IsExact 0 z (two_sum a b) → IsUp 0 z (upper (two_sum a b))
 unfolding two_sum
 sum-upper a b z E = upper_least 0 z (two_sum a b) (add-fits binary64 _ _) (add-fits binary64 _ _) E
@@ -35,9 +42,70 @@ pub add_up_least : (a b : Float) → T (fits binary64 a) → T (fits binary64 b)
 unfolding add_up
 add_up_least a b ha hb R = sum-upper a b (exact a +ℤ exact b) (two_sum_exact a b ha hb R)
 
-pub mul_up_least : (a b : Float) → T (fits binary64 a) → T (fits binary64 b) → ProductRange a b → IsUp 1074 (exact a *ℤ exact b) (mul_up a b)
-unfolding mul_up two_product product_error
-mul_up_least a b ha hb R = upper_least 1074 (exact a *ℤ exact b) (two_product a b) (mul-fits binary64 a b) (sub-fits binary64 _ _) (two_product_exact a b ha hb R)
+-- ---- products
+pub mul_up_least : (a b : Float) → T (finite a) → T (finite b) → IsUp 1074 (exact a *ℤ exact b) (mul_up a b)
+unfolding mul_up
+mul_up_least a b f g = product_up_law a b f g
+
+infinite_or_nan : (q s : Bool) → with_zero false (cond q nan (inf s)) ≡ cond q nan (inf s)
+infinite_or_nan true s = refl
+infinite_or_nan false s = refl
+
+-- a zero answer is +0
+pub mul_up_zero : (a b : Float) → with_zero false (mul_up a b) ≡ mul_up a b
+unfolding mul_up product_with mul
+mul_up_zero nan b = refl
+mul_up_zero (inf s) nan = refl
+mul_up_zero (inf s) (inf t) = refl
+mul_up_zero (inf s) (fin t n d) = infinite_or_nan (eqb n 0) (unlike s t)
+mul_up_zero (fin s m e) nan = refl
+mul_up_zero (fin s m e) (inf t) = infinite_or_nan (eqb m 0) (unlike s t)
+mul_up_zero (fin s m e) (fin t n d) = up_zero 1074 (exact (fin s m e) *ℤ exact (fin t n d))
+
+-- the halves of what is not finite have no rest to tell
+split-other : (a : Float) → finite a ≡ false → (split a).lo ≡ nan
+unfolding split add sub mul neg
+split-other nan e = refl
+split-other (inf true) e = refl
+split-other (inf false) e = refl
+split-other (fin s m d) e = absurd (true≢false e)
+
+without_first : (x : Float) (p q : CDouble) → p.lo ≡ nan → product_error x p q ≡ nan
+unfolding product_error mul sub add
+without_first x p q e = ap (λ (y : Float). y ⊗ q.lo ⊖ (((x ⊖ p.hi ⊗ q.hi) ⊖ y ⊗ q.hi) ⊖ p.hi ⊗ q.lo)) e
+
+times_nan : (x : Float) → x ⊗ nan ≡ nan
+unfolding mul
+times_nan nan = refl
+times_nan (inf s) = refl
+times_nan (fin s m e) = refl
+
+without_second : (x : Float) (p q : CDouble) → q.lo ≡ nan → product_error x p q ≡ nan
+unfolding product_error sub add
+without_second x p q e = ap (λ (y : Float). p.lo ⊗ y ⊖ (((x ⊖ p.hi ⊗ q.hi) ⊖ p.lo ⊗ q.hi) ⊖ p.hi ⊗ y)) e ∙ ap (λ (y : Float). y ⊖ (((x ⊖ p.hi ⊗ q.hi) ⊖ p.lo ⊗ q.hi) ⊖ p.hi ⊗ nan)) (times_nan p.lo)
+
+-- with a factor that is not finite it is what the Rust's form gives
+pub mul_up_other : (a b : Float) → (finite a ≡ false) ⊎ (finite b ≡ false) → mul_up a b ≡ upper (two_product a b)
+unfolding mul_up two_product upper lt
+mul_up_other a b h = sym (ap (λ (y : Float). upper (pair (a ⊗ b) y)) (no_rest h) ∙ product_other (round_up 1074) a b h)
+  where
+    no_rest : (finite a ≡ false) ⊎ (finite b ≡ false) → product_error (a ⊗ b) (split a) (split b) ≡ nan
+    no_rest (inl e) = without_first (a ⊗ b) (split a) (split b) (split-other a e)
+    no_rest (inr e) = without_second (a ⊗ b) (split a) (split b) (split-other b e)
+
+-- in the range of `two_product` it is that too, but for the sign of a zero
+pub mul_up_in_range : (a b : Float) → T (fits binary64 a) → T (fits binary64 b) → ProductRange a b → mul_up a b ≡ with_zero false (upper (two_product a b))
+unfolding two_product product_error
+mul_up_in_range a b ha hb R =
+    let f = both R in
+    sym (mul_up_zero a b)
+    ∙ up_unique 1074 (exact a *ℤ exact b) (mul_up a b) (upper (two_product a b)) (mul_up_least a b f.0 f.1)
+    (upper_least 1074 (exact a *ℤ exact b) (two_product a b) (mul-fits binary64 a b) (sub-fits binary64 _ _) (two_product_exact a b ha hb R))
+  where
+    both : ProductRange a b → T (finite a) × T (finite b)
+    both (inl r) = (r.0.0, r.1.is_finite)
+    both (inr (inl r)) = (r.0.is_finite, r.1.0)
+    both (inr (inr r)) = (r.first.is_finite, r.second.is_finite)
 
 -- ---- a pair rounded to one side
 pub rounded_toward : (c : CDouble) (up : Bool) (z : ℤ) → IsExact 0 z (normalized c) → IsToward up 0 z (rounded c up)

@@ -1,10 +1,11 @@
--- The Rust's compensated arithmetic, operation for operation in its order: document 01, "Double-double". Assumes nothing.
+-- The Rust's compensated arithmetic, operation for operation in its order, but for `mul_up`: document 01, "Double-double". Assumes nothing.
 -- What these come to where they are exact stands in Exactness.antt.
 use Rattle.std.specs.Prelude.{ℕ, Bool, true, false, cond, pos, negsuc, Float}
 use Rattle.std.specs.Float.{fin, binary64}
 use Rattle.std.specs.Float.Ieee.{neg, add, sub, mul, div, lt, of_int}
 use Rattle.doubles.specs.Neighbours.{next_up, next_down}
 use Rattle.doubles.specs.Compare.{larger}
+use Rattle.doubles.specs.Directed.{product_up}
 use Rattle.cdouble.specs.declared.CDouble.{CDouble}
 
 -- IEEE 754's operations on doubles
@@ -98,9 +99,10 @@ abs_up c = rounded (cond (lt (value c) plus_zero) (negated c) c) true
 unfoldable pub add_up : Float → Float → Float
 add_up a b = upper (two_sum a b)
 
--- `mul_up`. "Traps: taking `mul_up` for rounding up (see 2^-600)"
+-- `mul_up`, as request 5 of document 02 has it: "for finite factors, the least double not below the exact product, with a +0 answer for zero; other
+-- factors as before", which is IEEE 754's product. The Rust's own form is upper (two_product a b)
 unfoldable pub mul_up : Float → Float → Float
-mul_up a b = upper (two_product a b)
+mul_up a b = product_up a b
 
 -- `distance_up`: of magnitudes at most 2^1022 the least double not below the distance; beyond, what the Rust answers
 unfoldable pub distance_up : Float → Float → Float

@@ -17,7 +17,7 @@ mod upward;
 
 pub use allowance::compensated_error;
 pub use lent::{cdouble_add, cdouble_add_scaled};
-pub use upward::{add_up, distance_up, mul_up};
+pub use upward::{add_up, distance_up};
 
 /// The sum `hi + lo`, not evaluated.
 #[repr(C)]

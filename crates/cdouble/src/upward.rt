@@ -1,9 +1,9 @@
-//! Sums, products and distances of doubles rounded up through the double-double.
-ghost use Rattle.std.specs.Prelude.{◌≡◌, ◌*ℤ◌, ◌+ℤ◌, ◌-ℤ◌};
+//! Sums and distances of doubles rounded up through the double-double.
+ghost use Rattle.std.specs.Prelude.{◌≡◌, ◌+ℤ◌, ◌-ℤ◌};
 ghost use Rattle.exact.specs.Value.{exact};
 ghost use Rattle.doubles.specs.Directed.{IsUp};
-ghost use Rattle.cdouble.specs.Compensated.{add_up, distance_up, mul_up, upper};
-ghost use Rattle.cdouble.specs.Exactness.{abs_ℤ, ProductRange, SumRange};
+ghost use Rattle.cdouble.specs.Compensated.{add_up, distance_up, upper};
+ghost use Rattle.cdouble.specs.Exactness.{abs_ℤ, SumRange};
 
 use crate::CDouble;
 use double_bits::next_up;
@@ -23,14 +23,6 @@ pub fn add_up(a: f64, b: f64) -> f64
     ensures { (result ≡ add_up a b) × (SumRange a b → IsUp 0 (exact a +ℤ exact b) result) }
 {
     upper(CDouble::two_sum(a, b))
-}
-
-/// `a · b`, rounded up where the product's error can be told; a tiny product may come out too small.
-#[tactic(auto, using(doubles::proofs::Tests::fit, crate::proofs::Consequences::mul_up_least), unfolding(crate::specs::Compensated::mul_up))]
-pub fn mul_up(a: f64, b: f64) -> f64
-    ensures { (result ≡ mul_up a b) × (ProductRange a b → IsUp 1074 (exact a *ℤ exact b) result) }
-{
-    upper(CDouble::two_product(a, b))
 }
 
 /// `|a - b|`, rounded up where both magnitudes are at most 2^1022.

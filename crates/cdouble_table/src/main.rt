@@ -1,4 +1,4 @@
-// Runs the crate `cdouble` on the table of standard input, which
+// Runs the crate `cdouble`, and `mul_up` of `directed`, on the table of standard input, which
 // tests/cdouble_table/generate.py writes, and says for each operation how many cases were run and how many differ from
 // the table.
 //
@@ -7,7 +7,8 @@
 // and answers that an operation does not have are 0. A line of any other form counts as one that differs.
 #![tactic(auto)]
 
-use cdouble::{CDouble, add_up, compensated_error, distance_up, mul_up};
+use cdouble::{CDouble, add_up, compensated_error, distance_up};
+use directed::mul_up;
 use std::{fmt, io};
 use tables::{Report, Tabled, Tallies, bits_of, double_of, each_line, numbers};
 

@@ -3,3 +3,4 @@ pub mod Inexact
 pub mod Neighbour
 pub mod Rounded
 pub mod Running
+pub mod ZeroFactor

@@ -12,6 +12,7 @@ use lib.Pow.{pow-add, pow_pos, pow_mono}
 use lib.Ieee.{Float, nan, inf, fin, binary64, fits, le, lt, eq, neg, unlike, of_bits, of_fields, odd, size, units}
 use lib.Ieee.Fits.{and_l, and_r, neg-fits}
 use lib.Ieee.Scale.{finite}
+use mir.Facts.{or_yes}
 use Rattle.exact.specs.Value.{sign, magnitude, signed, exact, exact_at}
 use Rattle.exact.specs.Integers.{◌≼◌}
 use Rattle.exact.proofs.Difference.{differences}
@@ -113,10 +114,6 @@ least_is : of_bits binary64 0x0360_0000_0000_0000 ≡ least
 unfolding of_bits of_fields odd count_trailing_zeros size units
 least_is = refl
 
-either : (a b : Bool) → T (a || b) → T a ⊎ T b
-either true b t = inl tt
-either false b t = inr t
-
 far_signed : (s : Bool) (m n : ℕ) → (signed s m ≼ neg_ℤ (pos n)) ⊎ (pos n ≼ signed s m) → n ≤ m
 far_signed false m n (inr h) = (pos_≼ n m).0 h
 far_signed true m n (inl h) = (pos_≼ n m).0 ((neg-≼ (pos n) (pos m)).1 h)
@@ -136,7 +133,7 @@ far_tested x f h t y =
     let w : T (le x (neg least) || le least x) = subst (λ (q : Float). T (le x (neg q) || le q x)) least_is (subst T (sym y ∙ t) tt) in
     record {
       is_finite = f;
-      least = far_signed (sign x) (magnitude x) (2 ^ (1074 - 969)) (elim (either (le x (neg least)) (le least x) w) [
+      least = far_signed (sign x) (magnitude x) (2 ^ (1074 - 969)) (elim (or_yes (le x (neg least)) (le least x) w) [
         | inl l ↦ inl (subst (λ (w : ℤ). w ≼ neg_ℤ (pos (2 ^ (1074 - 969)))) (exact_is x) (subst (λ (w : ℤ). exact x ≼ w) (exact-neg least ∙ ap neg_ℤ exact_least) ((le-exact x (neg least) f tt h (neg-fits binary64 least tt)).0 l)))
         | inr l ↦ inr (subst (λ (w : ℤ). pos (2 ^ (1074 - 969)) ≼ w) (exact_is x) (subst (λ (w : ℤ). w ≼ exact x) exact_least ((le-exact least x tt f tt h).0 l)))
       ]);

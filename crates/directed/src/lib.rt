@@ -8,7 +8,9 @@ mod ranges;
 mod scaled;
 mod stepped;
 mod sums;
+mod upward;
 
 pub use products::product_bounds;
 pub use scaled::with_scaled;
 pub use sums::rounded_sum;
+pub use upward::mul_up;

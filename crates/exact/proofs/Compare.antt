@@ -13,6 +13,7 @@ use lib.Ieee.{Float, nan, inf, fin, binary64, up, down, lt, le, eq, fits, is_nan
 use lib.Ieee.{below as is_below}
 use lib.Ieee.Fits.{down_pos, and_i, and_l, and_r, eq→eqb}
 use lib.Ieee.Scale.{finite}
+use mir.Facts.{or_yes}
 use Rattle.exact.specs.Value.{sign, magnitude, signed, exact}
 use Rattle.exact.specs.Integers.{◌≼◌, ◌≺◌}
 use Rattle.exact.proofs.Difference.{differences}
@@ -109,10 +110,6 @@ same_bool false false f g = refl
 same_bool true false f g = absurd (f tt)
 same_bool false true f g = absurd (g tt)
 
-either : (a b : Bool) → T (a || b) → T a ⊎ T b
-either true b t = inl tt
-either false b t = inr t
-
 or_l : (a b : Bool) → T a → T (a || b)
 or_l true b t = tt
 or_l false b t = absurd t
@@ -140,7 +137,7 @@ module _ (x y : Float) (fx : T (finite x)) (fy : T (finite y)) (hx : T (fits bin
   pub le-exact : T (le x y) ↔ (exact x ≼ exact y)
   unfolding le
   le-exact = (
-    λ h. ⊎_elim (λ l. ≼_of_≺ (lt_to l)) (λ e. subst (λ (z : ℤ). exact x ≼ z) (eq_exact.0 e) (≼_refl (exact x))) (either (lt x y) (eq x y) h),
+    λ h. ⊎_elim (λ l. ≼_of_≺ (lt_to l)) (λ e. subst (λ (z : ℤ). exact x ≼ z) (eq_exact.0 e) (≼_refl (exact x))) (or_yes (lt x y) (eq x y) h),
     λ h. ⊎_elim (λ k. or_r (lt x y) (eq x y) (eq_exact.1 (≼_antisym h k))) (λ l. or_l (lt x y) (eq x y) (lt_of l)) (≼_or_≺ (exact y) (exact x)),
   )
 

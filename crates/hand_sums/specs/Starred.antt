@@ -50,8 +50,8 @@ starred =
     -- "two_product(1 + 2^-52, itself) = (1 + 2^-51, 2^-104)"
     ∷ record { given = (two_product one_ulp_more one_ulp_more).hi; bits = 0x3FF0_0000_0000_0002 }
     ∷ record { given = (two_product one_ulp_more one_ulp_more).lo; bits = 0x3970_0000_0000_0000 }
-    -- "mul_up(2^-600, 2^-600) = 0; rounded up 0000000000000001"
-    ∷ record { given = mul_up tiny tiny; bits = 0x0000_0000_0000_0000 }
+    -- "mul_up(2^-600, 2^-600)", which request 5 of document 02 makes 0000000000000001; "rounded up 0000000000000001"
+    ∷ record { given = mul_up tiny tiny; bits = 0x0000_0000_0000_0001 }
     ∷ record { given = product_up tiny tiny; bits = 0x0000_0000_0000_0001 }
     -- "MAX times 2: up +infinity, down MAX"
     ∷ record { given = product_up MAX two; bits = 0x7FF0_0000_0000_0000 }

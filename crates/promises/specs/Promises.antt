@@ -70,7 +70,7 @@ pub record FirstDemand : Type 0 where
 -- ---- 2. "each number from IEEE 754 operations in the stated order, Knuth's sum and Dekker's product exact in the stated ranges, the outward gap
 -- equal to document 01's steps"
 pub record SecondDemand : Type 0 where
-  -- the kept numbers and the certificate's lists: the definitions have the Rust's operations in the Rust's order
+  -- the kept numbers and the certificate's lists: the definitions have the Rust's operations in the Rust's order, but for `mul_up`, which request 5 changed
   pub kept : (i : Input) (v : Verdict) → answer_to i ≡ Ok v → v.proof ≡ proof_of (sheet_of i)
   pub certificate : (s : Sheet) (d : Doubles s) → Accepted s → (before : Lent) → left_by (in_slices s d) before ≡ filled_in s before
   pub knuth : (a b : Float) → T (fits binary64 a) → T (fits binary64 b) → SumRange a b → IsExact 0 (exact a +ℤ exact b) (two_sum a b)

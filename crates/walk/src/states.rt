@@ -3,7 +3,8 @@ ghost use Rattle.std.specs.Prelude.{◌≡◌};
 ghost use Rattle.walk.specs.States.{at_infinity, counted, counted_as_zero, error_of_zero};
 ghost use Rattle.walk.specs.StateReads.{Small};
 
-use cdouble::{CDouble, add_up, compensated_error, distance_up, mul_up};
+use cdouble::{CDouble, add_up, compensated_error, distance_up};
+use directed::mul_up;
 use double_bits::{abs, is_finite};
 
 /// What the certificate has for a variable: its coefficient, the magnitude and count of the terms it was summed from,

@@ -63,6 +63,13 @@ pub fn changed(change: impl FnOnce(&mut Parts)) -> Sheet {
     parts.sheet()
 }
 
+/// Weighed in slices and as text, which agree.
+pub fn both(sheet: &Sheet) -> Verdict<()> {
+    let verdict = weigh(sheet).unwrap().with(());
+    assert_eq!(weigh_text(sheet.to_text().as_bytes()).verdict().unwrap(), verdict);
+    verdict
+}
+
 /// The refusal of a sheet, which text and slices agree on. Lengths are asked of slices only.
 pub fn refusal(sheet: &Sheet) -> Option<Refusal> {
     let refusal = weigh(sheet).err();
