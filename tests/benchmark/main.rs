@@ -9,12 +9,18 @@
 //! With 32,768 entries at every size, caches and branch prediction are put to the same test at each; a few small sheets time
 //! and again are soon known by heart. Both sides go through all sheets in turn, time and again, and of each side the fastest turn counts. The verdict
 //! asks its questions of every sheet, which the others do not.
+#[allow(dead_code)]
+#[path = "../differential/directed.rs"]
+mod directed;
 #[path = "../differential/generate/mod.rs"]
 mod generate;
 #[allow(dead_code)]
 #[path = "../differential/library.rs"]
 mod library;
 mod outward;
+#[allow(dead_code)]
+#[path = "../differential/products.rs"]
+mod products;
 #[allow(dead_code, unused_variables)]
 #[path = "../differential/rust.rs"]
 mod rust;

@@ -1,4 +1,8 @@
 //! Calls the functions under test on many sheets, and compares all that they answer and leave behind.
+//!
+//! A sheet on which each of the Rust's products is the promised one (document 02, request 5) is compared with the unmodified
+//! Rust. Any other is left out of that, and compared with the same Rust whose products are the promised ones; what is left
+//! out and what differs there is counted apart.
 use crate::call::Call;
 use crate::counts::Counts;
 use crate::expected::{Expected, Outward, expected, outward, pattern};
@@ -14,6 +18,10 @@ use crate::threads::in_parallel;
 
 /// Differences shown of a sheet, and sheets shown.
 const SHOWN: usize = 5;
+/// A run of so many sheets or more is asked how many sheets are left out and how many of these turn.
+const MANY: u64 = 1_000_000;
+/// The class of which any part may be left out.
+const REACHES_LOST: &str = "reaches lost";
 /// Of so many sheets one is put to exact numbers too, which are dear. Prime, so that every class has its turn.
 const EXACT: u64 = 17;
 
@@ -76,29 +84,35 @@ fn differences(
 #[derive(Default)]
 struct Found {
     classes: Vec<u64>,
+    /// Of each class those left out, and those left out whose widened lists differ in length and are evened.
+    left: Vec<u64>,
+    left_evened: u64,
+    /// Sheets left out on which `holds` of the unmodified Rust is another, by what it is there.
+    turned: [u64; 2],
     counts: Counts,
     outward: Counts,
     calls: Counts,
     refusals: [u64; 13],
     differing: u64,
+    left_differing: u64,
     different: Vec<(u64, usize, Vec<String>)>,
 }
 
 impl Found {
     fn look(&mut self, number: u64, sheet: &Sheet, how: Lending) {
+        // of the sheets compared with the unmodified Rust, and of those left out
+        let (mut all, mut left) = (Vec::new(), Vec::new());
         // records have one length, so they say of such a sheet only as much as the shorter list
-        let mut all = sheet.evened().map_or(Vec::new(), |even| {
+        if let Some(even) = sheet.evened() {
             let expected = expected(&even);
             let outward = expected.answer.as_ref().map(|answer| outward(&even, answer));
-            self.call(&even, &expected, outward.as_ref(), how)
-        });
+            self.left_evened += expected.noted as u64;
+            if expected.noted { &mut left } else { &mut all }.extend(self.call(&even, &expected, outward.as_ref(), how));
+        }
         let expected = expected(sheet);
-        self.classes.resize(self.classes.len().max(sheet.class + 1), 0);
-        self.classes[sheet.class] += 1;
-        self.refusals[expected.kept[0] as usize] += 1;
-        self.counts.note(sheet, &expected);
+        self.note(sheet, &expected);
         let outward = expected.answer.as_ref().map(|answer| outward(sheet, answer));
-        all.extend(self.call(sheet, &expected, outward.as_ref(), how));
+        if expected.noted { &mut left } else { &mut all }.extend(self.call(sheet, &expected, outward.as_ref(), how));
         if let (Some(answer), Some(outward)) = (&expected.answer, &outward) {
             self.outward.note_outward(answer.holds, outward);
             if number % EXACT == 0 {
@@ -109,10 +123,26 @@ impl Found {
         if number % EXACT == 0 {
             self.add_in_place(sheet, &mut all);
         }
+        self.differing += !all.is_empty() as u64;
+        self.left_differing += !left.is_empty() as u64;
+        all.append(&mut left);
         if !all.is_empty() {
-            self.differing += 1;
             self.different.push((number, sheet.class, all));
             self.different.truncate(SHOWN);
+        }
+    }
+
+    /// Counts a sheet.
+    fn note(&mut self, sheet: &Sheet, expected: &Expected) {
+        for list in [&mut self.classes, &mut self.left] {
+            list.resize(list.len().max(sheet.class + 1), 0);
+        }
+        self.classes[sheet.class] += 1;
+        self.left[sheet.class] += expected.noted as u64;
+        self.refusals[expected.kept[0] as usize] += 1;
+        self.counts.note(sheet, expected);
+        if let (Some(answer), true) = (&expected.answer, expected.turned) {
+            self.turned[!answer.holds as usize] += 1;
         }
     }
 
@@ -156,13 +186,18 @@ impl Found {
     }
 
     fn merge(&mut self, other: Found) {
-        self.classes.resize(self.classes.len().max(other.classes.len()), 0);
-        self.classes.iter_mut().zip(other.classes).for_each(|(all, more)| *all += more);
+        for (list, more) in [(&mut self.classes, other.classes), (&mut self.left, other.left)] {
+            list.resize(list.len().max(more.len()), 0);
+            list.iter_mut().zip(more).for_each(|(all, more)| *all += more);
+        }
+        self.left_evened += other.left_evened;
+        self.turned.iter_mut().zip(other.turned).for_each(|(all, more)| *all += more);
         self.refusals.iter_mut().zip(other.refusals).for_each(|(all, more)| *all += more);
         self.counts.add_all(&other.counts);
         self.outward.add_all(&other.outward);
         self.calls.add_all(&other.calls);
         self.differing += other.differing;
+        self.left_differing += other.left_differing;
         self.different.extend(other.different);
         self.different.sort();
         self.different.truncate(SHOWN);
@@ -185,18 +220,61 @@ impl Found {
                 println!("    {difference}");
             }
         }
+        for (class, count) in self.left.iter().enumerate() {
+            println!("{count:>10} left out of class {class}, {}", classes[class]);
+        }
+        println!("{:>10} left out with their widened lists evened", self.left_evened);
+        let [to_yes, to_no] = self.turned;
+        println!("{to_yes:>10} hold with the promised products and not in the unmodified Rust");
+        println!("{to_no:>10} hold in the unmodified Rust and not with the promised products");
+        println!("{:>10} turns of `holds`", to_yes + to_no);
+    }
+
+    /// What a run of many sheets lacks, in words.
+    fn amiss(&self, classes: &[&str], sheets: u64, turns_a_million: u64) -> Vec<String> {
+        let mut all = Vec::new();
+        for (class, (left, count)) in self.left.iter().zip(&self.classes).enumerate() {
+            if classes[class] != REACHES_LOST && left * 5 > *count {
+                all.push(format!("more than a fifth of class {class} is left out"));
+            }
+        }
+        if self.left.iter().sum::<u64>() < 100 {
+            all.push("fewer than 100 sheets are left out".to_string());
+        }
+        if self.turned.iter().sum::<u64>() * 1_000_000 < turns_a_million * sheets {
+            all.push(format!("`holds` turns on fewer than {turns_a_million} sheets in a million"));
+        }
+        all
     }
 }
 
-/// Compares on so many sheets, on every core, and ends the run: with 1 if anything differs.
-pub fn compare(sheets: u64, classes: &[&str], how: Lending, make: impl Fn(u64) -> Sheet + Sync) -> ! {
+/// Compares on so many sheets, on every core, and ends the run: with 1 if anything differs, or a run of many sheets leaves
+/// out too many or too few or has too few turns.
+pub fn compare(
+    sheets: u64,
+    classes: &[&str],
+    turns_a_million: u64,
+    how: Lending,
+    make: impl Fn(u64) -> Sheet + Sync,
+) -> ! {
     let mut found = Found::default();
     for part in in_parallel(sheets, |found: &mut Found, number| found.look(number, &make(number), how)) {
         found.merge(part);
     }
     found.print(classes);
+    let amiss = if sheets < MANY { Vec::new() } else { found.amiss(classes, sheets, turns_a_million) };
+    for what in &amiss {
+        println!("{what}");
+    }
+    let left: u64 = found.left.iter().sum();
+    println!(
+        "{left} sheets left out, since a product differs from the promised one; compared with the Rust whose products are the \
+         promised ones, {} differ",
+        found.left_differing
+    );
     let what =
         if cfg!(verdict) { "verdicts compared with the Rust and the outward gap" } else { "compared with the Rust" };
-    println!("{sheets} sheets, {what}, {} differ", found.differing);
-    std::process::exit((found.differing != 0 || sheets == 0) as i32);
+    println!("{} sheets, {what}, {} differ", sheets - left, found.differing);
+    let wrong = found.differing + found.left_differing != 0 || sheets == 0 || !amiss.is_empty();
+    std::process::exit(wrong as i32);
 }

@@ -1,10 +1,11 @@
 #!/usr/bin/env python3
 """Cuts the Rust that the kept functions follow out of its documents, unchanged.
 
-    cut.py DOCUMENTS FILE
+    cut.py DOCUMENTS FOLDER
 
-Writes FILE, a module body that rust.rs includes. Nothing of it is kept in this repository. An item that a document does
-not have just once, whole, ends the run.
+Writes two files that rust.rs includes: FOLDER/mul_up.rs has `mul_up` alone, so that it can stand in a module of its own, and
+FOLDER/cut.rs has all else, a module body that calls a `mul_up`. Nothing of it is kept in this repository. An item that a
+document does not have just once, whole, ends the run.
 """
 import os
 import sys
@@ -26,7 +27,6 @@ ITEMS = [
     (PROOF, 'impl CDouble {'),
     (PROOF, 'impl From<f64> for CDouble {'),
     (PROOF, 'pub(super) fn add_up('),
-    (PROOF, 'fn mul_up('),
     (PROOF, 'const RESIDUAL_PRODUCT_MIN:'),
     (PROOF, 'fn distance_up('),
     (PROOF, 'const COMPENSATED_ERROR:'),
@@ -41,6 +41,9 @@ ITEMS = [
     (SOLVER, 'enum VarState {'),
     (SOLVER, 'struct WidenedBound {'),
 ]
+
+# The product whose promise is another than the Rust's (document 02, request 5).
+MUL_UP = (PROOF, 'fn mul_up(')
 
 # Methods of Solver, put into one impl.
 METHODS = [
@@ -107,7 +110,7 @@ def item(documents, name, start, indent):
 
 def main():
     if len(sys.argv) != 3:
-        fail('cut.py DOCUMENTS FILE')
+        fail('cut.py DOCUMENTS FOLDER')
     documents = {}
     for name in (PROOF, TOLERANCES, SOLVER):
         path = os.path.join(sys.argv[1], name)
@@ -117,8 +120,10 @@ def main():
             documents[name] = '\n' + file.read()
     parts = [item(documents, name, start, '') for name, start in ITEMS]
     parts += ['impl Solver {\n', *(item(documents, name, start, '    ') for name, start in METHODS), '}\n']
-    with open(sys.argv[2], 'w') as file:
-        file.write('\n'.join(parts))
+    name, start = MUL_UP
+    for file, text in (('cut.rs', '\n'.join(parts)), ('mul_up.rs', item(documents, name, start, ''))):
+        with open(os.path.join(sys.argv[2], file), 'w') as out:
+            out.write(text)
 
 
 main()

@@ -29,6 +29,7 @@ mod lent;
 #[cfg(not(alone))]
 mod library;
 mod outward;
+mod products;
 mod replay;
 #[allow(dead_code, unused_variables)]
 mod rust;
@@ -69,6 +70,8 @@ fn main() {
             _ => panic!("no argument {name}"),
         }
     }
+    // the timing is of the Rust as it is, in which no product is looked at
+    assert_eq!(cfg!(timed), asked.bench, "only --bench is built for the timing");
     if let Some(count) = stored {
         store::print(asked.seed, count as usize);
     } else if let Some(number) = show {
@@ -89,10 +92,10 @@ fn run(asked: Arguments) {
         bench::run(seed);
     } else if let Some(sheets) = asked.fuzz {
         println!("seed {seed}, {sheets} damaged sheets");
-        compare::compare(sheets, &shaken::CLASSES, how, |number| shaken::sheet(&mut Rng::of(seed, number)));
+        compare::compare(sheets, &shaken::CLASSES, 0, how, |number| shaken::sheet(&mut Rng::of(seed, number)));
     } else {
         println!("seed {seed}, {} sheets", asked.sheets);
-        compare::compare(asked.sheets, &generate::CLASSES, how, |number| {
+        compare::compare(asked.sheets, &generate::CLASSES, 1000, how, |number| {
             let class = class_of(number);
             let sheet = generate::sheet(&mut Rng::of(seed, number), class, false);
             assert!(class == 9 || sheet.first_no() == 0, "sheet {number} of class {class} is refused");

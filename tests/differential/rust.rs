@@ -3,13 +3,40 @@
 //!
 //! By hand, since the three documents do not have them: the fields' struct, the domains, the sparse rows, and the three
 //! bodies that document 01 gives under "Bodies not in the three files". `debug!` is nothing, since 01 leaves out logging.
+//!
+//! All of it is the Rust unchanged but for `mul_up`, whose promise is another since request 5 of document 02. The Rust's own
+//! is in a place of its own, and the one that the judgement calls (products.rs) runs it and answers as it does, unless the
+//! promised product is asked for. Built with the cfg `timed`, for the timing, the judgement calls the Rust's own.
+use crate::products;
 use crate::sheet::Sheet;
 
 macro_rules! debug {
     ($($word:tt)*) => {};
 }
 
-include!(env!("CUT"));
+include!(concat!(env!("CUT"), "/cut.rs"));
+
+#[cfg(timed)]
+include!(concat!(env!("CUT"), "/mul_up.rs"));
+
+#[cfg(not(timed))]
+mod own {
+    use super::CDouble;
+
+    include!(concat!(env!("CUT"), "/mul_up.rs"));
+
+    // below the module, so that it sees what is private there
+    pub mod lent {
+        pub fn mul_up(a: f64, b: f64) -> f64 {
+            super::mul_up(a, b)
+        }
+    }
+}
+
+#[cfg(not(timed))]
+fn mul_up(a: f64, b: f64) -> f64 {
+    products::taken(a, b, own::lent::mul_up(a, b))
+}
 
 /// 01: Integer and Boolean are both "integer".
 enum VarDomain {
@@ -89,6 +116,24 @@ impl Solver {
         let (_, magnitude) = self.row_activity(r, |v| self.internal_value(v));
         let (tol, terms) = (self.feasibility * self.row_scales[r], self.row_terms(r));
         (slack_tol(tol, magnitude, terms) - slack_margin(tol, magnitude, terms)).max(0.0)
+    }
+
+    fn bound(&self, var: usize, up: bool) -> f64 {
+        if up { self.orig_var_maxs[var] } else { self.orig_var_mins[var] }
+    }
+
+    /// 01: a variable's low or high edge.
+    fn edge(&self, leaving_row: usize, var: usize, up: bool) -> f64 {
+        let bound = self.bound(var, up);
+        if bound.is_infinite() {
+            bound
+        } else if var == self.basic_vars[leaving_row] {
+            band_edge(bound, self.var_tols[var].toward(up), up)
+        } else if self.holds_on_bounds(var) {
+            bound
+        } else {
+            band_edge(bound, self.widening_room(var, up), up)
+        }
     }
 
     pub fn of(sheet: &Sheet) -> Self {
@@ -202,20 +247,30 @@ pub fn combined(sheet: &Sheet) -> (Vec<Kept>, Vec<(f64, f64)>) {
             kept.push(Kept { row, high: y.hi, low: y.lo });
         }
     }
-    let leaving = solver.basic_vars[sheet.leaving_row];
-    let edge = |var: usize, bound: f64, up: bool| {
-        if bound.is_infinite() {
-            bound
-        } else if var == leaving {
-            band_edge(bound, solver.var_tols[var].toward(up), up)
-        } else if solver.holds_on_bounds(var) {
-            bound
-        } else {
-            band_edge(bound, solver.widening_room(var, up), up)
+    let edge = |var: usize, up: bool| solver.edge(sheet.leaving_row, var, up);
+    (kept, (0..solver.num_total_vars()).map(|var| (edge(var, false), edge(var, true))).collect())
+}
+
+/// How much the Rust's product of two factors lacks of the promised one; less than 0 where it is too large.
+pub fn lack(a: f64, b: f64) -> f64 {
+    products::promised(a, b) - mul_up(a, b)
+}
+
+/// The same of the judgement's products together, of all variables as if the walk went through.
+pub fn lacking(sheet: &Sheet) -> f64 {
+    let solver = Solver::of(sheet);
+    let mut multipliers = Multipliers::of(sheet);
+    multipliers.estimate();
+    let cert = solver.certificate(&multipliers.refined, sheet.leaving_up != 0);
+    let of_variable = |var: usize| {
+        let up = cert.coeff(var) > 0.0;
+        let (bound, edge) = (solver.bound(var, up), solver.edge(sheet.leaving_row, var, up));
+        if cert.coeff(var) == 0.0 || bound.is_infinite() {
+            return 0.0;
         }
+        lack(cert.coeffs[var].abs_up(), distance_up(edge, bound))
     };
-    let variables = 0..solver.num_total_vars();
-    (kept, variables.map(|var| (edge(var, sheet.mins[var], false), edge(var, sheet.maxs[var], true))).collect())
+    (0..solver.num_total_vars()).map(of_variable).sum()
 }
 
 /// How the walk over the variables ended, for the counts of outcomes.

@@ -1,14 +1,17 @@
 //! The stored list but for the gaps, which tests/outward adds: sheets with the Rust's answers, in lines of a letter and
 //! eight numbers.
 //!
-//!     S rows structurals entries widened extra class 0 0
+//!     S rows structurals entries widened extra class noted 0
 //!     D slice place n x x x x x
 //!     G refusal holds gap allowance cut zero zeroed rows
 //!     L list place n x x x x x
+//!
+//! Of a sheet on which a product of the Rust differs from the one that request 5 of document 02 promises, `noted` is 1, else
+//! 0: such a sheet's answer is the Rust's but for its products, which are the promised ones.
 use crate::generate::{sheet, Rng, CLASSES};
 use crate::rust::Walk;
 use crate::sheet::Sheet;
-use crate::expected::{expected, pattern, Expected};
+use crate::expected::{expected, pattern, unmodified, Expected};
 
 fn line(out: &mut String, letter: char, numbers: &[u64]) {
     out.push(letter);
@@ -41,7 +44,7 @@ pub fn lines(sheet: &Sheet, expected: &Expected) -> String {
     let entries = sheet.entries.len();
     let sizes = [sheet.made_rows, sheet.made_structurals, entries, sheet.widened_vars.len()];
     let mut first = counts(&sizes);
-    first.extend([sheet.outputs[0].saturating_sub(count) as u64, sheet.class as u64]);
+    first.extend([sheet.outputs[0].saturating_sub(count) as u64, sheet.class as u64, expected.noted as u64]);
     line(&mut out, 'S', &first);
     let slices = [
         counts(&sheet.starts),
@@ -132,11 +135,11 @@ fn strip(rng: &mut Rng, sheet: Sheet) -> Sheet {
         |s| s.right_sides.fill(0.0),
     ];
     let mut sheet = sheet;
-    let before = outcome(&expected(&sheet));
+    let before = outcome(&unmodified(&sheet));
     for clear in clear {
         let mut less = sheet.clone();
         clear(&mut less);
-        if rng.percent(80) && outcome(&expected(&less)) == before {
+        if rng.percent(80) && outcome(&unmodified(&less)) == before {
             sheet = less;
         }
     }
@@ -168,6 +171,27 @@ fn wanted(sheet: &Sheet, expected: &Expected, round: usize) -> bool {
         }
         _ => answer.holds || round % 2 == 0,
     }
+}
+
+/// Whether a sheet of the last class shows what its turn asks for: how the product is lost, whether `holds` of the unmodified
+/// Rust is another, and whether the leaving variable's room is among those lost.
+fn shows(sheet: &Sheet, expected: &Expected, turn: usize) -> bool {
+    let Some(answer) = &expected.answer else { return false };
+    let (room, turned) = (answer.allowance, expected.turned);
+    let (smallest, tiny, huge) = (f64::from_bits(8), f64::MIN_POSITIVE / f64::EPSILON, f64::MAX * f64::EPSILON);
+    let to_no = turned && !answer.holds;
+    let leaving = answer.high[answer.leaving] != 0.0;
+    expected.noted
+        && match turn % 8 {
+            0 => to_no && room < smallest,
+            1 => to_no && room >= smallest && room < tiny,
+            2 => turned && answer.holds,
+            3 => to_no && room > tiny && room < huge,
+            4 => to_no && room > huge,
+            5 => room == f64::INFINITY,
+            6 => turned && !leaving,
+            _ => expected.kept == unmodified(sheet).kept,
+        }
 }
 
 /// Document 01's example; the same with right side 1; and with its variable real and +infinity for its max. Beside each what
@@ -207,10 +231,12 @@ fn by_hand() -> [(Sheet, [Option<u64>; 8]); 3] {
     [(example, whole), (small, nothing), (unlimited, none)]
 }
 
-/// Prints so many sheets at least, of all classes, after those of document 01. Sheets of few lines are taken, since the list is kept in the
-/// repository; a few of moderate size come last.
+/// Prints so many sheets at least, of the classes but the last, after those of document 01. Sheets of few lines are taken, since
+/// the list is kept in the repository; a few of moderate size come next. They are chosen by the unmodified Rust's answers. On top
+/// come sheets of the last class.
 pub fn print(seed: u64, sheets: usize) {
     const MODERATE: usize = 5;
+    const LAST: usize = 32;
     let mut stored = 0;
     let mut tries = 0;
     let mut rounds = [0; CLASSES.len()];
@@ -234,9 +260,8 @@ pub fn print(seed: u64, sheets: usize) {
         let made = sheet(&mut rng, class, true);
         // the Rust's answer does not show what rounding outward loses, so such a sheet stays as it is
         let made = if class == 11 { made } else { strip(&mut rng, made) };
-        let expected = expected(&made);
-        let text = lines(&made, &expected);
-        if text.lines().count() <= most && wanted(&made, &expected, rounds[class]) {
+        let text = lines(&made, &expected(&made));
+        if text.lines().count() <= most && wanted(&made, &unmodified(&made), rounds[class]) {
             print!("{text}");
             stored += 1;
             rounds[class] += 1;
@@ -246,5 +271,16 @@ pub fn print(seed: u64, sheets: usize) {
         tries += 1;
         let made = sheet(&mut Rng::of(seed, tries), 8, true);
         print!("{}", lines(&made, &expected(&made)));
+    }
+    let mut last = 0;
+    while last < LAST {
+        tries += 1;
+        let made = sheet(&mut Rng::of(seed, tries), CLASSES.len() - 1, true);
+        let expected = expected(&made);
+        let text = lines(&made, &expected);
+        if text.lines().count() <= 24 && shows(&made, &expected, last) {
+            print!("{text}");
+            last += 1;
+        }
     }
 }

@@ -1,18 +1,29 @@
-//! What `weigh` is to print for a text, whatever its bytes.
-use crate::expected::{outward, pattern};
+//! What `weigh` is to print for a text, whatever its bytes. Where a product of the sheet differs from the promised one
+//! (document 02, request 5) the kept numbers are those of the Rust whose products are the promised ones.
+use crate::expected::{Weighed, outward, pattern, weighed};
 use crate::form;
-use crate::rust;
 
-/// The refusal's number, 0 where there is a verdict, and the bytes.
-pub fn answer(text: &[u8]) -> (usize, Vec<u8>) {
+pub struct Answer {
+    /// The refusal's number, 0 where there is a verdict.
+    pub refusal: usize,
+    pub bytes: Vec<u8>,
+    /// Whether a product that the unmodified Rust takes is not the promised one.
+    pub noted: bool,
+}
+
+fn refused(refusal: usize) -> Answer {
+    Answer { refusal, bytes: format!("(refused {refusal})\n").into_bytes(), noted: false }
+}
+
+pub fn answer(text: &[u8]) -> Answer {
     let Some(sheet) = form::read(text) else {
-        return (1, b"(refused 1)\n".to_vec());
+        return refused(1);
     };
     let refusal = sheet.first_no() as usize;
     if refusal != 0 {
-        return (refusal, format!("(refused {refusal})\n").into_bytes());
+        return refused(refusal);
     }
-    let kept = rust::answer(&sheet);
+    let Weighed { answer: kept, noted, turned: _ } = weighed(&sheet);
     let outward = outward(&sheet, &kept);
     let word = |yes: bool| if yes { "yes" } else { "no" };
     let mut lines = String::new();
@@ -26,5 +37,5 @@ pub fn answer(text: &[u8]) -> (usize, Vec<u8>) {
     line("rows", kept.rows.to_string());
     line("outward", format!("{:016X}", pattern(outward.gap)));
     line("declined", word(outward.declined).to_string());
-    (0, lines.into_bytes())
+    Answer { refusal: 0, bytes: lines.into_bytes(), noted }
 }

@@ -1,6 +1,7 @@
-//! Runs many texts and compares the answers.
+//! Runs many texts and compares the answers. A text on which a product differs from the promised one (document 02, request 5)
+//! is left out of the comparison with the unmodified Rust, and compared with the Rust whose products are the promised ones.
 use crate::Arguments;
-use crate::answer::answer;
+use crate::answer::{Answer, answer};
 use crate::by_hand;
 use crate::call::{differs, program_differs};
 use crate::counts::Counts;
@@ -22,6 +23,9 @@ struct Found {
     kinds: Counts,
     answers: Counts,
     refusals: [u64; 13],
+    /// Texts left out of the comparison with the unmodified Rust, and those of them that differ.
+    left: u64,
+    left_differing: u64,
     differing: u64,
     different: Vec<(u64, String)>,
 }
@@ -29,9 +33,10 @@ struct Found {
 impl Found {
     fn look(&mut self, asked: &Arguments, number: u64) {
         let text = make::text(asked.seed, number, &mut self.kinds);
-        let (refusal, right) = answer(&text);
-        self.refusals[refusal] += 1;
-        let lines = String::from_utf8_lossy(&right);
+        let right = answer(&text);
+        self.refusals[right.refusal] += 1;
+        self.left += right.noted as u64;
+        let lines = String::from_utf8_lossy(&right.bytes);
         for line in lines.lines().filter(|line| line.ends_with("yes)") || line.ends_with("no)")) {
             self.answers.add(line, 1);
         }
@@ -40,7 +45,8 @@ impl Found {
     }
 
     /// Compares a text's answers, with places that are enough, and once more with places that may be too few.
-    fn run(&mut self, asked: &Arguments, number: u64, text: &[u8], right: &[u8], child: bool) {
+    fn run(&mut self, asked: &Arguments, number: u64, text: &[u8], right: &Answer, child: bool) {
+        let Answer { bytes: right, noted, refusal: _ } = right;
         let how = if asked.apart { Lending::Apart } else { Lending::Guarded };
         let mut rng = Rng::of(!asked.seed, number);
         let few = rng.pick(&[0, 1, right.len() - 1, right.len(), right.len() + 1, 2 * ENOUGH]);
@@ -53,7 +59,7 @@ impl Found {
             wrong = wrong.or_else(|| program_differs(program, text, right, pieces));
         }
         if let Some(wrong) = wrong {
-            self.differing += 1;
+            if *noted { self.left_differing += 1 } else { self.differing += 1 }
             self.different.push((number, wrong));
             self.different.truncate(SHOWN);
         }
@@ -63,6 +69,8 @@ impl Found {
         self.kinds.add_all(&other.kinds);
         self.answers.add_all(&other.answers);
         self.refusals.iter_mut().zip(other.refusals).for_each(|(all, more)| *all += more);
+        self.left += other.left;
+        self.left_differing += other.left_differing;
         self.differing += other.differing;
         self.different.extend(other.different);
         self.different.sort();
@@ -75,7 +83,7 @@ pub fn compare(asked: &Arguments) -> ! {
     println!("seed {}, {} texts", asked.seed, asked.texts);
     let mut found = Found { kinds: make::kinds(), ..Found::default() };
     for (at, (text, _)) in by_hand::texts().iter().enumerate() {
-        let right = answer(text.as_bytes()).1;
+        let right = answer(text.as_bytes());
         found.run(asked, u64::MAX - at as u64, text.as_bytes(), &right, true);
     }
     for part in in_parallel(asked.texts, |found: &mut Found, number| found.look(asked, number)) {
@@ -94,6 +102,12 @@ pub fn compare(asked: &Arguments) -> ! {
     for (number, wrong) in &found.different {
         println!("text {number}: {wrong}");
     }
-    println!("{} texts compared, {} differ", asked.texts, found.differing);
-    std::process::exit((found.differing != 0 || asked.texts == 0 || !rare.is_empty()) as i32);
+    println!(
+        "{} texts left out, since a product differs from the promised one; compared with the Rust whose products are the \
+         promised ones, {} differ",
+        found.left, found.left_differing
+    );
+    println!("{} texts compared, {} differ", asked.texts - found.left, found.differing);
+    let differing = found.differing + found.left_differing;
+    std::process::exit((differing != 0 || asked.texts == 0 || !rare.is_empty()) as i32);
 }

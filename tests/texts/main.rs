@@ -1,5 +1,7 @@
 //! Compares `weigh_text`, and the program `weigh`, with what document 01 says of texts: with this program's own reader of the
-//! sheet's form, the questions, the Rust's kept numbers and the outward gap.
+//! sheet's form, the questions, the Rust's kept numbers and the outward gap. Where a product differs from the one that
+//! request 5 of document 02 promises, the kept numbers are those of the Rust whose products are the promised ones, and the
+//! text is counted apart.
 //!
 //!     --seed N --texts N    compares on so many texts; ends with 1 if anything differs
 //!     --at-least N          ends with 1 too if a refusal that a text can have came less often
@@ -46,6 +48,8 @@ mod lent;
 #[path = "../differential/outward.rs"]
 #[allow(dead_code)]
 mod outward;
+#[path = "../differential/products.rs"]
+mod products;
 #[path = "../differential/rust.rs"]
 #[allow(dead_code, unused_variables)]
 mod rust;
@@ -86,14 +90,14 @@ fn main() {
         }
     }
     for (text, said) in by_hand::texts() {
-        let answer = answer::answer(text.as_bytes()).1;
+        let answer = answer::answer(text.as_bytes()).bytes;
         assert!(String::from_utf8_lossy(&answer).contains(said), "document 01 says otherwise of\n{text}");
     }
     if let Some(texts) = stored {
         store::print(asked.seed, texts as usize, lines);
     } else if let Some(number) = show {
         let text = make::text(asked.seed, number, &mut counts::Counts::default());
-        print!("{}{}", String::from_utf8_lossy(&text), String::from_utf8_lossy(&answer::answer(&text).1));
+        print!("{}{}", String::from_utf8_lossy(&text), String::from_utf8_lossy(&answer::answer(&text).bytes));
     } else {
         run(asked);
     }

@@ -39,14 +39,14 @@ fn in_lines(text: &[u8], answer: &[u8]) -> Vec<u8> {
 pub fn print(seed: u64, texts: usize, lines: bool) {
     let (form, longest): (fn(&[u8], &[u8]) -> Vec<u8>, _) = if lines { (in_lines, 400) } else { (as_they_are, 700) };
     let mut out = std::io::stdout().lock();
-    let mut put = |text: &[u8]| out.write_all(&form(text, &answer(text).1)).expect("standard output");
+    let mut put = |text: &[u8]| out.write_all(&form(text, &answer(text).bytes)).expect("standard output");
     put(EXAMPLE.as_bytes());
     let mut met = [0; 13];
     let (mut stored, mut number) = (0, 0);
     while stored < texts {
         number += 1;
         let text = make::text(seed, number, &mut Counts::default());
-        let refusal = answer(&text).0;
+        let refusal = answer(&text).refusal;
         let most = match refusal {
             0 => texts / 2,
             1 => texts / 4,

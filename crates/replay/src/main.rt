@@ -5,13 +5,17 @@
 // outputs are to be. A line is a letter and eight numbers of 16 digits, each after a space. Numbers that a letter does not
 // have are 0.
 //
-//     S rows structurals entries widened extra class    a new sheet: each slice has the length that these need, each
-//                                                       output as many places as there are variables, and the extra
+//     S rows structurals entries widened extra class noted    a new sheet: each slice has the length that these need,
+//                                  each output as many places as there are variables, and the extra; noted is 1 where a
+//                                  product differs from the Rust's, else 0
 //     D slice place n x x x x x    puts n values, 1 to 5, into a slice from a place on: numbers, flags, doubles' patterns
 //     G refusal holds gap allowance cut zero_within_error multipliers_zeroed rows    runs the sheet: the answer
 //     O refusal outward exact      reckons outward: the refusal, the outward gap, and the exact gap rounded down, which is
 //                                  NaN where there is none; both 0 where the sheet is refused
 //     L list place n x x x x x     n places of an output, 1 to 5: high, low, magnitudes, terms, errors, place after place
+//
+// A sheet that is noted is one on which a product that the promise of `mul_up` gives has other bits than the Rust's: such a
+// sheet's answer is the Rust's but for its products, which are the promised ones.
 //
 // A slice goes by its place among those that `proof_of` takes. After them comes one that is not handed over: the numbers
 // of the sheet. A new sheet has 0 everywhere, but for the sizes among its numbers; its outputs have FILL. A sheet
@@ -34,7 +38,7 @@ use tables::{Tally, bits_of, count, double_of, each_line, numbers};
 const LINE: usize = 138;
 
 // The classes of sheets.
-const CLASSES: usize = 12;
+const CLASSES: usize = 13;
 
 // How many lines that differ are printed.
 const SHOWN: u64 = 20;
@@ -186,11 +190,11 @@ impl Shape {
             widened,
             extra,
             class,
-            none,
+            noted,
             no_more,
         ] = a;
         let small = rows < 132 && structurals <= 257 && entries <= 4100 && widened <= 776;
-        if small && extra <= 12 && class < CLASSES && none == 0 && no_more == 0 {
+        if small && extra <= 12 && class < CLASSES && noted <= 1 && no_more == 0 {
             Some(Shape {
                 rows,
                 structurals,

@@ -4,6 +4,7 @@ mod damage;
 mod extremes;
 mod frame;
 mod numbers;
+mod reaches;
 mod shapes;
 
 #[allow(unused_imports)] // for tests/texts
@@ -18,9 +19,10 @@ use extremes::{beyond, overflowing_error, scramble, summit, swell, torn};
 use frame::{PLAN, Plan, Size, fill, frame};
 use numbers::Kind::{Bits, Grains, Huge, Ordinary, Root, Split, Tiny, Whole, Wide, Zero};
 use numbers::UNIT;
+use reaches::reaches;
 use shapes::{brink, cancelled, dependent, low_parts, pinch, without_room, zeroed};
 
-pub const CLASSES: [&str; 12] = [
+pub const CLASSES: [&str; 13] = [
     "small whole numbers",
     "ordinary doubles",
     "near-dependent rows",
@@ -33,6 +35,7 @@ pub const CLASSES: [&str; 12] = [
     "refused",
     "widened sides",
     "lost in rounding",
+    "reaches lost",
 ];
 
 fn small(rng: &mut Rng, bare: bool) -> Size {
@@ -146,6 +149,11 @@ pub fn sheet(rng: &mut Rng, class: usize, bare: bool) -> Sheet {
             (size.dense, size.full) = (size.structurals, rng.percent(80));
             plan = Plan { open: 0, aim: 0, nudge: 0, checked: 20, ..plan };
         }
+        12 => {
+            let (rows, structurals) = if bare { rng.pick(&[(1, 1), (1, 2), (2, 1)]) } else { (1 + rng.below(3), 1 + rng.below(3)) };
+            size = Size { rows, structurals, dense: structurals, full: rng.percent(80), bare };
+            plan = Plan { open: 0, aim: 0, nudge: 0, checked: 20, ..plan };
+        }
         _ => {}
     }
     // the cut of a long row reaches its margin where the row itself is small
@@ -218,10 +226,11 @@ pub fn sheet(rng: &mut Rng, class: usize, bare: bool) -> Sheet {
                 nudge(rng, &mut sheet);
             }
         },
+        12 => reaches(rng, &mut sheet),
         _ => {}
     }
     // a leaving slack whose row is dropped
-    if class != 8 && rng.percent(4) {
+    if class != 8 && class != 12 && rng.percent(4) {
         let leaving = (0..sheet.basic.len()).find(|&v| sheet.basic[v] != 0 && sheet.places[v] == sheet.leaving_row);
         if let Some(r) = leaving.and_then(|v| v.checked_sub(sheet.structurals)) {
             (sheet.rho_hi[r], sheet.rho_lo[r]) = (rng.pick(&[0.0, -0.0]), 0.0);
@@ -238,11 +247,17 @@ pub fn of_size(rng: &mut Rng, rows: usize, structurals: usize, dense: usize) -> 
     sheet
 }
 
-/// Which class a sheet of a run is of: each in turn, those at the limits of size more rarely since they are dear.
+/// Which class a sheet of a run is of: each but the last in turn, those at the limits of size more rarely since they are
+/// dear. Of the turns that these leave, every second is the last class's, and the others those of ordinary doubles.
 pub fn class_of(sheet: u64) -> usize {
-    let classes = CLASSES.len() as u64;
-    let class = (sheet % classes) as usize;
-    if class == 8 && sheet / classes % 50 != 0 { 1 } else { class }
+    let last = CLASSES.len() - 1;
+    let (round, class) = (sheet / last as u64, (sheet % last as u64) as usize);
+    match class {
+        8 if round % 50 == 0 => 8,
+        8 if round % 2 == 1 => last,
+        8 => 1,
+        _ => class,
+    }
 }
 
 /// Sheets for the timing: entries in all, and whether checked. They hold, and every walk goes through.
