@@ -1,5 +1,6 @@
-//! Times the full verdict against the Rust's `proof_of` and an outward reckoning in C, in one process on the same sheets. The
-//! verdict is `sheet_verdict`'s; the last column has the ratio of `verdict_of`, which takes the widened list as two lists.
+//! Times the full verdict against the unmodified Rust's `proof_of` and an outward reckoning in C, in one process on
+//! the same sheets. The verdict is `sheet_verdict`'s; the last column has the ratio of `verdict_of`, which takes the
+//! widened list as two lists.
 //!
 //!     --seed N          the seed of the sheets, else 1
 //!     --repetitions N   how often each side is timed, else 400

@@ -1,7 +1,7 @@
-//! Times a call here, and the kept reckoning in the Rust, on the same sheets. A call here asks the questions first, which
-//! the Rust does not. What they take is told by the same sheets with a leaving row that the last question refuses; the
-//! rest is the reckoning: of the kept numbers alone where the archive has `proof_of`, and with `sheet_verdict` of the
-//! outward gap too.
+//! Times a call here, and the kept reckoning in the unmodified Rust, on the same sheets. A call here asks the questions
+//! first, which the Rust does not. What they take is told by the same sheets with a leaving row that the last question
+//! refuses; the rest is the reckoning: of the kept numbers alone where the archive has `proof_of`, and with
+//! `sheet_verdict` of the outward gap too.
 use crate::call::Call;
 use crate::generate::{timed, Rng};
 use crate::lent::Lending;

@@ -1,8 +1,8 @@
 //! Calls the functions under test on many sheets, and compares all that they answer and leave behind.
 //!
-//! A sheet on which each of the Rust's products is the promised one (document 02, request 5) is compared with the unmodified
-//! Rust. Any other is left out of that, and compared with the same Rust whose products are the promised ones; what is left
-//! out and what differs there is counted apart.
+//! A sheet on which each of the Rust's products is the promised one (document 02, request 5) is compared with the
+//! unmodified Rust. Any other is left out of that, and compared with the same Rust whose products are the promised
+//! ones; what is left out and what differs there is counted apart.
 use crate::call::Call;
 use crate::counts::Counts;
 use crate::expected::{Expected, Outward, expected, outward, pattern};
@@ -106,13 +106,15 @@ impl Found {
         if let Some(even) = sheet.evened() {
             let expected = expected(&even);
             let outward = expected.answer.as_ref().map(|answer| outward(&even, answer));
+            let found = self.call(&even, &expected, outward.as_ref(), how);
             self.left_evened += expected.noted as u64;
-            if expected.noted { &mut left } else { &mut all }.extend(self.call(&even, &expected, outward.as_ref(), how));
+            (if expected.noted { &mut left } else { &mut all }).extend(found);
         }
         let expected = expected(sheet);
         self.note(sheet, &expected);
         let outward = expected.answer.as_ref().map(|answer| outward(sheet, answer));
-        if expected.noted { &mut left } else { &mut all }.extend(self.call(sheet, &expected, outward.as_ref(), how));
+        let found = self.call(sheet, &expected, outward.as_ref(), how);
+        (if expected.noted { &mut left } else { &mut all }).extend(found);
         if let (Some(answer), Some(outward)) = (&expected.answer, &outward) {
             self.outward.note_outward(answer.holds, outward);
             if number % EXACT == 0 {
@@ -248,8 +250,8 @@ impl Found {
     }
 }
 
-/// Compares on so many sheets, on every core, and ends the run: with 1 if anything differs, or a run of many sheets leaves
-/// out too many or too few or has too few turns.
+/// Compares on so many sheets, on every core, and ends the run: with 1 if anything differs, or a run of many sheets
+/// leaves out too many or too few or has too few turns.
 pub fn compare(
     sheets: u64,
     classes: &[&str],
@@ -268,8 +270,8 @@ pub fn compare(
     }
     let left: u64 = found.left.iter().sum();
     println!(
-        "{left} sheets left out, since a product differs from the promised one; compared with the Rust whose products are the \
-         promised ones, {} differ",
+        "{left} sheets left out, since a product differs from the promised one; compared with the Rust whose products \
+         are the promised ones, {} differ",
         found.left_differing
     );
     let what =

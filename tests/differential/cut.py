@@ -3,9 +3,9 @@
 
     cut.py DOCUMENTS FOLDER
 
-Writes two files that rust.rs includes: FOLDER/mul_up.rs has `mul_up` alone, so that it can stand in a module of its own, and
-FOLDER/cut.rs has all else, a module body that calls a `mul_up`. Nothing of it is kept in this repository. An item that a
-document does not have just once, whole, ends the run.
+Writes two files that rust.rs includes: FOLDER/mul_up.rs has `mul_up` alone, so that it can stand in a module of its
+own, and FOLDER/cut.rs has all else, a module body that calls a `mul_up`. Nothing of it is kept in this repository. An
+item that a document does not have just once, whole, ends the run.
 """
 import os
 import sys

@@ -1,6 +1,6 @@
-//! What is to come of a sheet: the first question that refuses it, or the Rust's kept numbers with the outward gap. Where a
-//! product of the sheet differs from the promised one (document 02, request 5) the kept numbers are those of the same Rust
-//! whose products are the promised ones.
+//! What is to come of a sheet: the first question that refuses it, or the Rust's kept numbers with the outward gap.
+//! Where a product of the sheet differs from the promised one (document 02, request 5) the kept numbers are those of
+//! the same Rust whose products are the promised ones.
 use crate::outward::Reckoning;
 use crate::products::{noting, promising};
 use crate::rust::{self, Answer};

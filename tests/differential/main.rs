@@ -2,14 +2,19 @@
 //! says, on sheets made from a seed. Each sheet is put to `sheet_verdict` and to `verdict_of`, which are to agree. An archive
 //! without them is asked for the kept numbers alone.
 //!
-//!     --seed N --sheets N   compares on so many sheets; ends with 1 if anything differs
+//! A sheet on which a product that the Rust's `mul_up` takes has other bits than the one that request 5 of document 02
+//! promises is left out of the comparison with the unmodified Rust. It is compared with the same Rust whose `mul_up`
+//! answers the promised product (products.rs), and counted apart.
+//!
+//!     --seed N --sheets N   compares on so many sheets; ends with 1 if anything differs, and from a million sheets on
+//!                           if too many or too few are left out, or `holds` turns on too few of these (compare.rs)
 //!     --seed N --fuzz N     the same on slices that are damaged in every way
 //!     --apart               lends each slice in memory of its own, without guards, for a tool that watches memory
-//!     --store N             prints at least N sheets with the Rust's answers, as the stored list has them but for the
-//!                           gaps, which tests/outward adds
+//!     --store N             prints at least N sheets with these answers, as the stored list has them but for the gaps,
+//!                           which tests/outward adds
 //!     --outward             reads such a list with its gaps, and compares each outward gap with the one reckoned here
-//!     --show N              prints sheet N of the seed, with the Rust's answer
-//!     --bench               times the function here and the kept reckoning in the Rust
+//!     --show N              prints sheet N of the seed, with its answer
+//!     --bench               times the function here and the kept reckoning in the unmodified Rust
 //!
 //! Every number of the answer, every place of the outputs and those round them, and every lent place are compared by bits, a
 //! NaN counted as one. The Rust asks no questions; which sheets are refused is worked out from document 01 (sheet.rs).

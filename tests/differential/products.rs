@@ -1,9 +1,9 @@
 //! The product that request 5 of document 02 promises of `mul_up`, and on which sheets the Rust's is another.
 //!
-//! The `mul_up` that the cut judgement calls is the one here in the comparison: it runs the Rust's own, works out the
-//! promised product, notes whether their bits differ, and answers the Rust's or, where that is asked for, the promised one.
-//! What it notes and what it answers belong to a thread, since sheets are run on many. Built with the cfg `timed` the
-//! judgement calls the Rust's own instead, and nothing is noted.
+//! In the comparison the `mul_up` that the cut judgement calls (rust.rs) runs the Rust's own, works out the promised
+//! product, notes whether their bits differ, and answers the Rust's or, where that is asked for, the promised one.
+//! What is noted and what is asked for belong to a thread, since sheets are run on many. Built with the cfg `timed`
+//! the judgement calls the Rust's own instead, and nothing is noted.
 use crate::directed::product;
 use std::cell::Cell;
 

@@ -4,9 +4,10 @@
 //! By hand, since the three documents do not have them: the fields' struct, the domains, the sparse rows, and the three
 //! bodies that document 01 gives under "Bodies not in the three files". `debug!` is nothing, since 01 leaves out logging.
 //!
-//! All of it is the Rust unchanged but for `mul_up`, whose promise is another since request 5 of document 02. The Rust's own
-//! is in a place of its own, and the one that the judgement calls (products.rs) runs it and answers as it does, unless the
-//! promised product is asked for. Built with the cfg `timed`, for the timing, the judgement calls the Rust's own.
+//! All of it is the Rust unchanged but for `mul_up`, whose promise is another since request 5 of document 02. The
+//! Rust's own is in a place of its own, and the one that the judgement calls (products.rs) runs it and answers as it
+//! does, unless the promised product is asked for. Built with the cfg `timed`, for the timing, the judgement calls the
+//! Rust's own.
 use crate::products;
 use crate::sheet::Sheet;
 

@@ -6,8 +6,8 @@
 //!     G refusal holds gap allowance cut zero zeroed rows
 //!     L list place n x x x x x
 //!
-//! Of a sheet on which a product of the Rust differs from the one that request 5 of document 02 promises, `noted` is 1, else
-//! 0: such a sheet's answer is the Rust's but for its products, which are the promised ones.
+//! Of a sheet on which a product of the Rust differs from the one that request 5 of document 02 promises, `noted` is
+//! 1, else 0: such a sheet's answer is the Rust's but for its products, which are the promised ones.
 use crate::generate::{sheet, Rng, CLASSES};
 use crate::rust::Walk;
 use crate::sheet::Sheet;
@@ -173,8 +173,8 @@ fn wanted(sheet: &Sheet, expected: &Expected, round: usize) -> bool {
     }
 }
 
-/// Whether a sheet of the last class shows what its turn asks for: how the product is lost, whether `holds` of the unmodified
-/// Rust is another, and whether the leaving variable's room is among those lost.
+/// Whether a sheet of the last class shows what its turn asks for: how the product is lost, whether `holds` of the
+/// unmodified Rust is another, and whether the leaving variable's room is among those lost.
 fn shows(sheet: &Sheet, expected: &Expected, turn: usize) -> bool {
     let Some(answer) = &expected.answer else { return false };
     let (room, turned) = (answer.allowance, expected.turned);
@@ -231,9 +231,9 @@ fn by_hand() -> [(Sheet, [Option<u64>; 8]); 3] {
     [(example, whole), (small, nothing), (unlimited, none)]
 }
 
-/// Prints so many sheets at least, of the classes but the last, after those of document 01. Sheets of few lines are taken, since
-/// the list is kept in the repository; a few of moderate size come next. They are chosen by the unmodified Rust's answers. On top
-/// come sheets of the last class.
+/// Prints so many sheets at least, of the classes but the last, after those of document 01. Sheets of few lines are
+/// taken, since the list is kept in the repository; a few of moderate size come next. They are chosen by the
+/// unmodified Rust's answers. On top come sheets of the last class.
 pub fn print(seed: u64, sheets: usize) {
     const MODERATE: usize = 5;
     const LAST: usize = 32;

@@ -4,8 +4,8 @@
     gaps.py < SHEETS    writes the sheets again, each with one line more, and a summary to standard error
 
 The sheets are those that tests/differential writes: lines of a letter and eight numbers of 16 digits. A line S makes a
-sheet, lines D fill it, a line G has the Rust's answer, or that of the Rust with the promised products where the line S says
-so, lines L what its outputs are to be. No product of the Rust's enters the gaps. After the line G comes
+sheet, lines D fill it, a line G has the Rust's answer, or that of the Rust with the promised products where the line S
+says so, lines L what its outputs are to be. No product of the Rust's enters the gaps. After the line G comes
 
     O refusal outward exact 0 0 0 0 0    the refusal of the line G, the outward gap, and the exact gap rounded down, or
                                          a NaN where there is none; both 0 where the sheet is refused

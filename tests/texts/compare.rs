@@ -1,5 +1,6 @@
-//! Runs many texts and compares the answers. A text on which a product differs from the promised one (document 02, request 5)
-//! is left out of the comparison with the unmodified Rust, and compared with the Rust whose products are the promised ones.
+//! Runs many texts and compares the answers. A text on which a product differs from the promised one (document 02,
+//! request 5) is left out of the comparison with the unmodified Rust, and compared with the Rust whose products are the
+//! promised ones.
 use crate::Arguments;
 use crate::answer::{Answer, answer};
 use crate::by_hand;
@@ -59,7 +60,7 @@ impl Found {
             wrong = wrong.or_else(|| program_differs(program, text, right, pieces));
         }
         if let Some(wrong) = wrong {
-            if *noted { self.left_differing += 1 } else { self.differing += 1 }
+            *(if *noted { &mut self.left_differing } else { &mut self.differing }) += 1;
             self.different.push((number, wrong));
             self.different.truncate(SHOWN);
         }
@@ -103,8 +104,8 @@ pub fn compare(asked: &Arguments) -> ! {
         println!("text {number}: {wrong}");
     }
     println!(
-        "{} texts left out, since a product differs from the promised one; compared with the Rust whose products are the \
-         promised ones, {} differ",
+        "{} texts left out, since a product differs from the promised one; compared with the Rust whose products are \
+         the promised ones, {} differ",
         found.left, found.left_differing
     );
     println!("{} texts compared, {} differ", asked.texts - found.left, found.differing);

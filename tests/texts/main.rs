@@ -1,7 +1,7 @@
-//! Compares `weigh_text`, and the program `weigh`, with what document 01 says of texts: with this program's own reader of the
-//! sheet's form, the questions, the Rust's kept numbers and the outward gap. Where a product differs from the one that
-//! request 5 of document 02 promises, the kept numbers are those of the Rust whose products are the promised ones, and the
-//! text is counted apart.
+//! Compares `weigh_text`, and the program `weigh`, with what document 01 says of texts: with this program's own reader
+//! of the sheet's form, the questions, the Rust's kept numbers and the outward gap. Where a product differs from the
+//! one that request 5 of document 02 promises, the kept numbers are those of the Rust whose products are the promised
+//! ones, and the text is counted apart.
 //!
 //!     --seed N --texts N    compares on so many texts; ends with 1 if anything differs
 //!     --at-least N          ends with 1 too if a refusal that a text can have came less often

@@ -14,8 +14,8 @@
 //                                  NaN where there is none; both 0 where the sheet is refused
 //     L list place n x x x x x     n places of an output, 1 to 5: high, low, magnitudes, terms, errors, place after place
 //
-// A sheet that is noted is one on which a product that the promise of `mul_up` gives has other bits than the Rust's: such a
-// sheet's answer is the Rust's but for its products, which are the promised ones.
+// A sheet that is noted is one on which a product that the promise of `mul_up` gives has other bits than the Rust's:
+// such a sheet's answer is the Rust's but for its products, which are the promised ones.
 //
 // A slice goes by its place among those that `proof_of` takes. After them comes one that is not handed over: the numbers
 // of the sheet. A new sheet has 0 everywhere, but for the sizes among its numbers; its outputs have FILL. A sheet

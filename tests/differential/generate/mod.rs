@@ -150,7 +150,8 @@ pub fn sheet(rng: &mut Rng, class: usize, bare: bool) -> Sheet {
             plan = Plan { open: 0, aim: 0, nudge: 0, checked: 20, ..plan };
         }
         12 => {
-            let (rows, structurals) = if bare { rng.pick(&[(1, 1), (1, 2), (2, 1)]) } else { (1 + rng.below(3), 1 + rng.below(3)) };
+            let few = [(1, 1), (1, 2), (2, 1)];
+            let (rows, structurals) = if bare { rng.pick(&few) } else { (rng.below(3) + 1, rng.below(3) + 1) };
             size = Size { rows, structurals, dense: structurals, full: rng.percent(80), bare };
             plan = Plan { open: 0, aim: 0, nudge: 0, checked: 20, ..plan };
         }
@@ -247,8 +248,9 @@ pub fn of_size(rng: &mut Rng, rows: usize, structurals: usize, dense: usize) -> 
     sheet
 }
 
-/// Which class a sheet of a run is of: each but the last in turn, those at the limits of size more rarely since they are
-/// dear. Of the turns that these leave, every second is the last class's, and the others those of ordinary doubles.
+/// Which class a sheet of a run is of: each but the last in turn, those at the limits of size more rarely since they
+/// are dear. Of the turns that these leave, every second is the last class's, and the others those of ordinary
+/// doubles.
 pub fn class_of(sheet: u64) -> usize {
     let last = CLASSES.len() - 1;
     let (round, class) = (sheet / last as u64, (sheet % last as u64) as usize);

@@ -1,9 +1,9 @@
-//! Sheets on which the Rust's product of a coefficient and a width is not the promised one (document 02, request 5), and
-//! whose gap is about the room, so that `holds` of the one turns to that of the other.
+//! Sheets on which the Rust's product of a coefficient and a width is not the promised one (document 02, request 5),
+//! and whose gap is about the room, so that `holds` of the one turns to that of the other.
 //!
-//! That is where the exact product lies below 2^-969, where the width is so large that its split overflows, and where the
-//! product comes to the largest double. A gap above such a room makes the magnitude of the sums overflow, so that of the
-//! products about MAX only those below 2^1023, with a width whose split overflows, can turn `holds`.
+//! That is where the exact product lies below 2^-969, where the width is so large that its split overflows, and where
+//! the product comes to the largest double. A gap above a room so large makes the magnitude of the sums overflow, so
+//! that of the products about MAX only those below 2^1023, with a width whose split overflows, can turn `holds`.
 use super::aim::put_y;
 use super::numbers::{Rng, power, ulps};
 use super::shapes::{low_parts, without_room};
@@ -130,8 +130,8 @@ fn aim(rng: &mut Rng, sheet: &mut Sheet, kind: Kind) {
 /// A row's multiplier and the entries of variables that no row before has taken.
 fn row(rng: &mut Rng, sheet: &mut Sheet, r: usize, kind: Kind, taken: &mut [bool]) {
     let (size, width) = factors(rng, kind);
-    // the slack's own product is one of the kind where the multiplier is as small as a coefficient; where the gap is about
-    // MAX the right side is to be far from it
+    // the slack's own product is one of the kind where the multiplier is as small as a coefficient; where the gap is
+    // about MAX the right side is to be far from it
     let own = rng.percent(30) && size > power(-900) && kind != SplitAboutMax;
     let part = if kind == SplitAboutMax { rng.within(300, 600) } else { rng.within(-3, 3) };
     let y = if own {
