@@ -2,8 +2,8 @@
 -- of every size. Assumes nothing.
 use Rattle.std.proofs.Common.{◌≡◌, ◌⊎◌, true≢false, ℕ, ◌+◌, ◌^◌, ◌≤◌, Bool, true, false, cond, T, ℤ, pos, negsuc, ◌+ℤ◌, ◌-ℤ◌, ◌*ℤ◌, neg_ℤ, sym, refl, ap, ◌∙◌, subst, inl, inr, arith, lit<}
 use lib.IntN.{neg_ℤ-+ℤ}
-use lib.Ieee.{Float, nan, inf, fin, binary64, unlike, fits, neg, add, sub, mul, lt}
 use lib.Dec.{eqb}
+use lib.Ieee.{Float, nan, inf, fin, binary64, unlike, fits, neg, add, sub, mul, lt}
 use lib.Ieee.Fits.{neg-fits, add-fits, sub-fits, mul-fits}
 use lib.Ieee.Scale.{finite}
 use Rattle.exact.specs.Value.{magnitude, exact}

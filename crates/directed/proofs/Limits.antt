@@ -134,7 +134,8 @@ far_tested x f h t y =
     record {
       is_finite = f;
       least = far_signed (sign x) (magnitude x) (2 ^ (1074 - 969)) (elim (or_yes (le x (neg least)) (le least x) w) [
-        | inl l ↦ inl (subst (λ (w : ℤ). w ≼ neg_ℤ (pos (2 ^ (1074 - 969)))) (exact_is x) (subst (λ (w : ℤ). exact x ≼ w) (exact-neg least ∙ ap neg_ℤ exact_least) ((le-exact x (neg least) f tt h (neg-fits binary64 least tt)).0 l)))
+        | inl l ↦ inl (subst (λ (w : ℤ). w ≼ neg_ℤ (pos (2 ^ (1074 - 969)))) (exact_is x)
+            (subst (λ (w : ℤ). exact x ≼ w) (exact-neg least ∙ ap neg_ℤ exact_least) ((le-exact x (neg least) f tt h (neg-fits binary64 least tt)).0 l)))
         | inr l ↦ inr (subst (λ (w : ℤ). pos (2 ^ (1074 - 969)) ≼ w) (exact_is x) (subst (λ (w : ℤ). w ≼ exact x) exact_least ((le-exact least x tt f tt h).0 l)))
       ]);
     }
@@ -164,7 +165,9 @@ sum_between k a b ra rb =
     let double : 2 ^ (1074 + suc k) ≡ N + N = ap (λ (n : ℕ). 2 ^ n) (add-suc 1074 k) ∙ two-pow-succ (1074 + k) in
     let u = within-magnitude k a ra in
     let v = within-magnitude k b rb in (
-      subst (λ (w : ℤ). w ≼ exact a +ℤ exact b) (minus N ∙ ap (λ (n : ℕ). neg_ℤ (pos n)) (sym double) ∙ sym (exact_minus (suc k)) ∙ by_one (exact (neg (power (suc k))))) (+_mono (neg_ℤ (pos N)) (exact a) (neg_ℤ (pos N)) (exact b) u.0 v.0),
+      subst (λ (w : ℤ). w ≼ exact a +ℤ exact b)
+          (minus N ∙ ap (λ (n : ℕ). neg_ℤ (pos n)) (sym double) ∙ sym (exact_minus (suc k)) ∙ by_one (exact (neg (power (suc k)))))
+          (+_mono (neg_ℤ (pos N)) (exact a) (neg_ℤ (pos N)) (exact b) u.0 v.0),
       subst (λ (w : ℤ). exact a +ℤ exact b ≼ w) (plus N ∙ ap pos (sym double) ∙ sym (exact_power (suc k)) ∙ by_one (exact (power (suc k)))) (+_mono (exact a) (pos N) (exact b) (pos N) u.1 v.1),
     )
   where
@@ -180,8 +183,12 @@ product_between j k a b ra rb =
     let whole : 2 ^ (1074 + (j + k)) * 2 ^ 1074 ≡ N = sym (pow-add 2 (1074 + (j + k)) 1074) ∙ ap (λ (n : ℕ). 2 ^ n) (turn j k) ∙ pow-add 2 (1074 + j) (1074 + k) in
     let is = ap (λ (z : ℤ). z *ℤ exact b) (exact_is a) ∙ ap (λ (z : ℤ). signed (sign a) (magnitude a) *ℤ z) (exact_is b) ∙ signed_* (sign a) (sign b) (magnitude a) (magnitude b) in
     let w = signed_within (unlike (sign a) (sign b)) (magnitude a * magnitude b) N (mul-le-mul ra.cap rb.cap) in (
-      subst (λ (z : ℤ). z ≼ exact a *ℤ exact b) (ap (λ (n : ℕ). neg_ℤ (pos n)) (sym whole) ∙ minus (2 ^ (1074 + (j + k))) (2 ^ 1074) ∙ ap (λ (z : ℤ). z *ℤ pos (2 ^ 1074)) (sym (exact_minus (j + k)))) (subst (λ (z : ℤ). neg_ℤ (pos N) ≼ z) (sym is) w.0),
-      subst (λ (z : ℤ). exact a *ℤ exact b ≼ z) (ap pos (sym whole) ∙ plus (2 ^ (1074 + (j + k))) (2 ^ 1074) ∙ ap (λ (z : ℤ). z *ℤ pos (2 ^ 1074)) (sym (exact_power (j + k)))) (subst (λ (z : ℤ). z ≼ pos N) (sym is) w.1),
+      subst (λ (z : ℤ). z ≼ exact a *ℤ exact b)
+          (ap (λ (n : ℕ). neg_ℤ (pos n)) (sym whole) ∙ minus (2 ^ (1074 + (j + k))) (2 ^ 1074) ∙ ap (λ (z : ℤ). z *ℤ pos (2 ^ 1074)) (sym (exact_minus (j + k))))
+          (subst (λ (z : ℤ). neg_ℤ (pos N) ≼ z) (sym is) w.0),
+      subst (λ (z : ℤ). exact a *ℤ exact b ≼ z)
+          (ap pos (sym whole) ∙ plus (2 ^ (1074 + (j + k))) (2 ^ 1074) ∙ ap (λ (z : ℤ). z *ℤ pos (2 ^ 1074)) (sym (exact_power (j + k))))
+          (subst (λ (z : ℤ). z ≼ pos N) (sym is) w.1),
     )
   where
     turn : (j k : ℕ) → 1074 + (j + k) + 1074 ≡ 1074 + j + (1074 + k)

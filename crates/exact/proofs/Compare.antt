@@ -1,6 +1,6 @@
 -- `lib.Ieee`'s comparisons of finite doubles are those of their exact values, and the infinities stand at the ends. Assumes nothing.
 use mathlib.Core.Path.{◌≡◌, refl, sym, ap, ◌∙◌, subst}
-use mathlib.Core.Logic.{◌↔◌, ◌⊎◌, inl, inr, ⊎_elim}
+use mathlib.Core.Logic.{◌↔◌, ⊎_elim}
 use mathlib.Core.Bool.{Bool, true, false, not, ◌&&◌, ◌||◌}
 use Prim.Native.Nat.{ℕ, ◌+◌, ◌*◌, ◌^◌, ◌<◌}
 use native.Mathlib.Nat.{le_of_eq, lt_of_lt_of_le, lt_of_le_of_lt, mul-pos, mul-lt-mul_of_pos_right, lt_of_mul-lt-mul_right, eq_of_mul-eq-mul_right}
@@ -89,7 +89,8 @@ lt_is (fin s m e) (inf t) u v = absurd v.has
 lt_is (fin s m e) (fin t n d) u v =
     let c = common s m e t n d u v in
     let b = below_is s (m * up e * down d) t (n * up d * down e) in
-    let r = signed_lt_ratio (2 ^ 1074) (down e * down d) (pow_pos 1074) (mul-pos (down_pos e) (down_pos d)) s (m * up e * down d) (magnitude (fin s m e)) t (n * up d * down e) (magnitude (fin t n d)) c.0 c.1 in
+    let r = signed_lt_ratio (2 ^ 1074) (down e * down d) (pow_pos 1074) (mul-pos (down_pos e) (down_pos d))
+    s (m * up e * down d) (magnitude (fin s m e)) t (n * up d * down e) (magnitude (fin t n d)) c.0 c.1 in
     (λ h. r.0 (b.0 h), λ h. b.1 (r.1 h))
 
 eq_is : (x y : Float) → Whole x → Whole y → T (eq x y) ↔ SignedEq (sign x) (magnitude x) (sign y) (magnitude y)
@@ -101,7 +102,8 @@ eq_is (fin s m e) (inf t) u v = absurd v.has
 eq_is (fin s m e) (fin t n d) u v =
     let c = common s m e t n d u v in
     let b = level_is s (m * up e * down d) t (n * up d * down e) in
-    let r = signed_eq_ratio (2 ^ 1074) (down e * down d) (pow_pos 1074) (mul-pos (down_pos e) (down_pos d)) s (m * up e * down d) (magnitude (fin s m e)) t (n * up d * down e) (magnitude (fin t n d)) c.0 c.1 in
+    let r = signed_eq_ratio (2 ^ 1074) (down e * down d) (pow_pos 1074) (mul-pos (down_pos e) (down_pos d))
+    s (m * up e * down d) (magnitude (fin s m e)) t (n * up d * down e) (magnitude (fin t n d)) c.0 c.1 in
     (λ h. r.0 (b.0 h), λ h. b.1 (r.1 h))
 
 pub same_bool : (a b : Bool) → (T a → T b) → (T b → T a) → a ≡ b
