@@ -73,7 +73,8 @@ enum ushnazar_refusal {
 struct ushnazar_verdict {
     /* 0, or the number of the first question whose answer is no: an enum ushnazar_refusal. */
     uint32_t refusal;
-    /* The solver's own judgement: its certificate holds. An order is not to be declined on it alone. */
+    /* The solver's judgement, but for the rounding that the allowance speaks of: its certificate holds. An order is not to be
+       declined on it alone. */
     bool holds;
     /* How far the combined row's right side lies beyond the largest value of the row within the bounds, as the solver
        reckons it; -infinity where the row has no largest value, NaN where a number on the way is not finite. */

@@ -9,7 +9,8 @@ use alloc::vec::Vec;
 /// `()` where there are none, as from a text.
 #[derive(Clone, Copy, Debug, PartialEq)]
 pub struct Verdict<C> {
-    /// Whether the certificate holds by the solver's own judgement. An order is not to be declined on it alone.
+    /// Whether the certificate holds by the solver's judgement, but for the rounding that the allowance speaks of. An
+    /// order is not to be declined on it alone.
     pub holds: bool,
     /// How far the combined row's right side lies beyond the largest value that the row can take within the bounds, as
     /// the solver reckons it; −infinity where the row has no largest value, NaN where a number on the way is not finite.

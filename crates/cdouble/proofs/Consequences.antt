@@ -2,8 +2,7 @@
 -- of every size. Assumes nothing.
 use Rattle.std.proofs.Common.{◌≡◌, ◌⊎◌, true≢false, ℕ, ◌+◌, ◌^◌, ◌≤◌, Bool, true, false, cond, T, ℤ, pos, negsuc, ◌+ℤ◌, ◌-ℤ◌, ◌*ℤ◌, neg_ℤ, sym, refl, ap, ◌∙◌, subst, inl, inr, arith, lit<}
 use lib.IntN.{neg_ℤ-+ℤ}
-use lib.Dec.{eqb}
-use lib.Ieee.{Float, nan, inf, fin, binary64, unlike, fits, neg, add, sub, mul, lt}
+use lib.Ieee.{Float, nan, inf, fin, binary64, fits, neg, add, sub, mul, lt}
 use lib.Ieee.Fits.{neg-fits, add-fits, sub-fits, mul-fits}
 use lib.Ieee.Scale.{finite}
 use Rattle.exact.specs.Value.{magnitude, exact}
@@ -15,9 +14,9 @@ use Rattle.exact.proofs.Representable.{representable-zero, representable_pow}
 use Rattle.exact.proofs.Values.{exact-neg, finite-neg}
 use Rattle.exact.proofs.Nearest.{to_nearest_mono, to_nearest_same}
 use Rattle.exact.proofs.Compare.{lt_to, lt_of}
-use Rattle.doubles.specs.Directed.{with_zero, round_up, product_with, IsUp}
+use Rattle.doubles.specs.Directed.{with_zero, round_up, IsUp}
 use Rattle.doubles.proofs.Bounding.{product_other}
-use Rattle.doubles.proofs.Ends.{product_up_law}
+use Rattle.doubles.proofs.Ends.{product_up_law, product_plus}
 use Rattle.doubles.proofs.Mirror.{up_zero}
 use Rattle.doubles.proofs.Rounding.{up_unique}
 use Rattle.cdouble.specs.declared.CDouble.{CDouble}
@@ -47,20 +46,10 @@ pub mul_up_least : (a b : Float) → T (finite a) → T (finite b) → IsUp 1074
 unfolding mul_up
 mul_up_least a b f g = product_up_law a b f g
 
-infinite_or_nan : (q s : Bool) → with_zero false (cond q nan (inf s)) ≡ cond q nan (inf s)
-infinite_or_nan true s = refl
-infinite_or_nan false s = refl
-
 -- a zero answer is +0
 pub mul_up_zero : (a b : Float) → with_zero false (mul_up a b) ≡ mul_up a b
-unfolding mul_up product_with mul
-mul_up_zero nan b = refl
-mul_up_zero (inf s) nan = refl
-mul_up_zero (inf s) (inf t) = refl
-mul_up_zero (inf s) (fin t n d) = infinite_or_nan (eqb n 0) (unlike s t)
-mul_up_zero (fin s m e) nan = refl
-mul_up_zero (fin s m e) (inf t) = infinite_or_nan (eqb m 0) (unlike s t)
-mul_up_zero (fin s m e) (fin t n d) = up_zero 1074 (exact (fin s m e) *ℤ exact (fin t n d))
+unfolding mul_up
+mul_up_zero a b = product_plus (round_up 1074) (up_zero 1074) a b
 
 -- the halves of what is not finite have no rest to tell
 split-other : (a : Float) → finite a ≡ false → (split a).lo ≡ nan

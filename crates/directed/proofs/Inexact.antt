@@ -25,7 +25,8 @@ use Rattle.doubles.specs.Directed.{with_zero, round_up, round_down, sum_with, pr
 use Rattle.doubles.proofs.Patterns.{rank_of, pattern, ranked, finite_no_nan, double_sign}
 use Rattle.doubles.proofs.Zero.{with_zero_rank, with_zero_own}
 use Rattle.doubles.proofs.Mirror.{up_zero, down_zero}
-use Rattle.doubles.proofs.Bounding.{sum-finite, product_finite}
+use Rattle.doubles.proofs.Bounding.{sum-finite}
+use Rattle.doubles.proofs.Ends.{product_plus}
 use Rattle.cdouble.specs.declared.CDouble.{CDouble}
 use Rattle.cdouble.specs.Compensated.{◌⊕◌, plus_zero}
 use Rattle.cdouble.specs.Exactness.{IsExact}
@@ -115,8 +116,8 @@ round_clear true = up_zero
 round_clear false = down_zero
 
 -- products are never −0
-pub product_clear : (up : Bool) (a b : Float) → T (finite a) → T (finite b) → NotMinusZero (product_to up a b)
-product_clear up a b f g = subst NotMinusZero (product_finite (round_to up 1074) a b f g) (round_clear up 1074 (exact a *ℤ exact b))
+pub product_clear : (up : Bool) (a b : Float) → NotMinusZero (product_to up a b)
+product_clear up a b = product_plus (round_to up 1074) (round_clear up 1074) a b
 
 -- the order of a sum does not matter
 pub sum_turned : (rounded : ℤ → Float) (a b : Float) → T (finite a) → T (finite b) → sum_with rounded a b ≡ sum_with rounded b a

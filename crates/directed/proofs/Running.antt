@@ -97,7 +97,7 @@ module _ (up : Bool) (c a b : Float) (rc : AtMost 1020 c) (ra : AtMost 510 a) (r
 
   pub first : T (fits binary64 c) → {p : Float} → p ≡ product → SumRange p c × NotMinusZero (p ⊕ c)
   first hc e = subst (λ (p : Float). SumRange p c × NotMinusZero (p ⊕ c)) (sym e)
-      (product_first product c (product_fits up a b ra.is_finite rb.is_finite) hc (product_clear up a b ra.is_finite rb.is_finite)
+      (product_first product c (product_fits up a b ra.is_finite rb.is_finite) hc (product_clear up a b)
       (weaker 1020 1022 product (omega arith) most, weaker 1020 1022 c (omega arith) rc))
 
   turned : {s p : Float} → s ≡ sum_to up p c → p ≡ product → s ≡ sum
@@ -109,7 +109,7 @@ module _ (up : Bool) (c a b : Float) (rc : AtMost 1020 c) (ra : AtMost 510 a) (r
     second_product = product_to up d b
 
     added : SumRange second_product sum × NotMinusZero (second_product ⊕ sum)
-    added = product_first second_product sum (product_fits up d b rd.is_finite rb.is_finite) fit (product_clear up d b rd.is_finite rb.is_finite)
+    added = product_first second_product sum (product_fits up d b rd.is_finite rb.is_finite) fit (product_clear up d b)
         (weaker 1020 1022 second_product (omega arith) (product_most up d b rd rb), weaker 1021 1022 sum (omega arith) sum_at_most)
 
     pub second : {s p q : Float} → s ≡ sum_to up p c → p ≡ product → q ≡ second_product → SumRange q s × NotMinusZero (q ⊕ s)

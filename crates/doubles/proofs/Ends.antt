@@ -1,4 +1,4 @@
--- Sums and products rounded outward: least and greatest, exact where the value is a double, mirror images. Assumes nothing.
+-- Sums and products rounded outward: least and greatest, exact where the value is a double, no product −0, mirror images. Assumes nothing.
 use mathlib.Core.Path.{◌≡◌, refl, sym, ap, ◌∙◌, subst}
 use mathlib.Core.Bool.{Bool, true, false, not, cond}
 use native.Mathlib.Omega.{arith}
@@ -47,6 +47,21 @@ module _ (a b : Float) (f : T (finite a)) (g : T (finite b)) where
 pub sum_infinite : (rounded : ℤ → Float) (s : Bool) (b : Float) → sum_with rounded (inf s) b ≡ inf s
 unfolding sum_with
 sum_infinite rounded s b = refl
+
+-- ---- a product is not −0, for every pair of doubles
+infinite-plus : (q s : Bool) → with_zero false (cond q nan (inf s)) ≡ cond q nan (inf s)
+infinite-plus true s = refl
+infinite-plus false s = refl
+
+pub product_plus : (rounded : ℤ → Float) → ((z : ℤ) → with_zero false (rounded z) ≡ rounded z) → (a b : Float) → with_zero false (product_with rounded a b) ≡ product_with rounded a b
+unfolding product_with mul
+product_plus rounded plus nan b = refl
+product_plus rounded plus (inf s) nan = refl
+product_plus rounded plus (inf s) (inf t) = refl
+product_plus rounded plus (inf s) (fin t n d) = infinite-plus (eqb n 0) (unlike s t)
+product_plus rounded plus (fin s m e) nan = refl
+product_plus rounded plus (fin s m e) (inf t) = infinite-plus (eqb m 0) (unlike s t)
+product_plus rounded plus (fin s m e) (fin t n d) = plus (exact (fin s m e) *ℤ exact (fin t n d))
 
 -- ---- the mirror, for every pair of doubles
 pub sum_mirror : (a b : Float) → sum_up (neg a) (neg b) ≡ with_zero false (neg (sum_down a b))
