@@ -5,7 +5,8 @@
     generate.py --check F    exit 1 where the file F is not that table
 
 A line is an operation's letter, two arguments and the right answer, each number as the 16 hexadecimal digits of a
-double's bit pattern. An operation on one number has it twice. is_finite answers 1 or 0. Every NaN is 7FF8000000000000.
+double's bit pattern. An operation on one number has it twice. is_finite answers 1 or 0. Every NaN that is answered is
+7FF8000000000000.
 
     a abs   f is_finite   u next_up   d next_down   M max   m min
     U sum_up   D sum_down   p product_bounds .down   P product_bounds .up
@@ -145,10 +146,15 @@ def specials():
 
 def singles():
     """Values for the operations on one number, beside the special ones."""
-    powers = (-1074, -1073, -1050, -1023, -1021, -600, -53, -1, 1, 52, 53, 600, 1023)
+    powers = (-1074, -1073, -1072, -1050, -1024, -1023, -1021, -600, -53, -1, 1, 52, 53, 600, 1023)
     sizes = [power(k) + d for k in powers for d in (-1, 0, 1)]
     sizes += [near('0.1'), near('1.5'), near('1e300'), INF - 2, NORMAL - 2]
     return [b for s in sizes if s for b in (s, minus(s))]
+
+
+def nans():
+    """NaNs of either sign beside the one that is answered: next to the infinity, quiet, and the last pattern there is."""
+    return [b for s in (INF + 1, NAN, SIGN - 1) for b in (s, minus(s)) if b != NAN]
 
 
 def chosen():
@@ -237,7 +243,7 @@ def lines():
     hard = common + list(both_signs(chosen()))
     numbers = special + singles() + [a for a, b in drawn()]
     for letter, answer in SINGLE.items():
-        for a in dict.fromkeys(map(one, numbers)):
+        for a in [*dict.fromkeys(map(one, numbers)), *nans()]:
             yield f'{letter} {a:016X} {a:016X} {answer(a):016X}\n'
     for letter, answer in PAIR.items():
         for a, b in dict.fromkeys((one(a), one(b)) for a, b in (common if letter in 'Mm' else hard)):

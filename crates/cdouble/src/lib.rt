@@ -9,7 +9,7 @@ ghost use Rattle.doubles.specs.Directed.{IsUp};
 ghost use Rattle.cdouble.specs.Compensated.{abs_up, negated, normalized, plus, plus_product, plus_scaled, rounded, split, two_product, two_sum, value};
 ghost use Rattle.cdouble.specs.Exactness.{abs_ℤ, AtMost, IsExact, IsSplit, IsToward, ProductRange, SumRange};
 
-use double_bits::{next_down, next_up};
+use adjacent::{next_down, next_up};
 
 mod allowance;
 mod lent;

@@ -6,7 +6,7 @@ ghost use Rattle.cdouble.specs.Compensated.{add_up, distance_up, upper};
 ghost use Rattle.cdouble.specs.Exactness.{abs_ℤ, SumRange};
 
 use crate::CDouble;
-use double_bits::next_up;
+use adjacent::next_up;
 
 // Kept: `directed` has a fast form of this that asks for a range, and `CDouble::rounded` adds first; this one asks nothing.
 /// The high part of `s`, or the next double up where the low part is above 0.

@@ -30,27 +30,28 @@ use Rattle.doubles.proofs.Ends.{product_plus}
 use Rattle.cdouble.specs.declared.CDouble.{CDouble}
 use Rattle.cdouble.specs.Compensated.{◌⊕◌, plus_zero}
 use Rattle.cdouble.specs.Exactness.{IsExact}
-use Rattle.directed.specs.Far.{Far, Clear, NotMinusZero}
+use Rattle.directed.specs.Far.{Far, NotMinusZero}
+use Rattle.adjacent.specs.Fields.{Normal}
 
--- ---- a number of at least two units rounds to at least two, and one of less is a double's
-nearest_two : (z : ℤ) → 2 ≤ nat_abs z → 2 ≤ nat_abs (to_nearest 0 z)
-nearest_two = by_sign _ λ s n h.
-    subst (λ (m : ℕ). 2 ≤ m) (sym (ap nat_abs (to_nearest_signed 0 s n) ∙ signed_abs s (nearest_units 53 0 n)))
-    (nearest_ge 53 (lit< tt) 0 n 2 (representable_pow 53 (lit< tt) 1) (subst (λ (m : ℕ). 2 ≤ m) (signed_abs s n) h))
+-- ---- a number of a normal number's size rounds to one, and a smaller one is a double's
+nearest_normal : (z : ℤ) → 2 ^ 52 ≤ nat_abs z → 2 ^ 52 ≤ nat_abs (to_nearest 0 z)
+nearest_normal = by_sign _ λ s n h.
+    subst (λ (m : ℕ). 2 ^ 52 ≤ m) (sym (ap nat_abs (to_nearest_signed 0 s n) ∙ signed_abs s (nearest_units 53 0 n)))
+    (nearest_ge 53 (lit< tt) 0 n (2 ^ 52) (representable_pow 53 (lit< tt) 52) (subst (λ (m : ℕ). 2 ^ 52 ≤ m) (signed_abs s n) h))
 
-small_same : (z : ℤ) → nat_abs z < 2 → to_nearest 0 z ≡ z
+small_same : (z : ℤ) → nat_abs z < 2 ^ 52 → to_nearest 0 z ≡ z
 small_same z h = ap (to_nearest 0) (by_one z) ∙ to_nearest_same 0 z (record { exp = 0; dvd = one-dvd (nat_abs z); fit = below (nat_abs z) h })
   where
-    below : (n : ℕ) → n < 2 → n < 2 ^ (53 + 0)
+    below : (n : ℕ) → n < 2 ^ 52 → n < 2 ^ (53 + 0)
     below n h = omega arith
 
 no_rest : (a b z : ℤ) → a *ℤ pos (2 ^ 0) +ℤ b *ℤ pos (2 ^ 0) ≡ z → a ≡ z → b ≡ pos 0
 no_rest = all _ λ a a'. all _ λ b b'. all _ λ z z'. simp differences (λ h k. omega arith)
 
 -- the pair of a sum whose low part is not 0
-pub inexact_large : (z : ℤ) (c : CDouble) → IsExact 0 z c → (exact c.lo ≡ pos 0 → ⊥) → 2 ≤ magnitude c.hi
-inexact_large z c E n = elim (le_or_lt 2 (nat_abs z)) [
-  | inl h ↦ subst (λ (m : ℕ). 2 ≤ m) (ap nat_abs (sym E.nearest) ∙ exact_abs c.hi) (nearest_two z h)
+pub inexact_large : (z : ℤ) (c : CDouble) → IsExact 0 z c → (exact c.lo ≡ pos 0 → ⊥) → 2 ^ 52 ≤ magnitude c.hi
+inexact_large z c E n = elim (le_or_lt (2 ^ 52) (nat_abs z)) [
+  | inl h ↦ subst (λ (m : ℕ). 2 ^ 52 ≤ m) (ap nat_abs (sym E.nearest) ∙ exact_abs c.hi) (nearest_normal z h)
   | inr h ↦ absurd (n (no_rest (exact c.hi) (exact c.lo) z E.whole (E.nearest ∙ small_same z h)))
 ]
 
@@ -80,11 +81,11 @@ not_minus_zero x f h n = ap (with_zero false) same ∙ go (sign x) (rank_of x) s
 pub is_not_minus_zero : (x : Float) → NotMinusZero x → x ≡ minus_zero → ⊥
 is_not_minus_zero x n e = true≢false (sym (ap sign e) ∙ ap sign (sym n ∙ ap (with_zero false) e))
 
--- what is far from 0 is clear of it
-pub far_clear : {x : Float} → Far x → (step : Bool) → Clear x step
-far_clear {x} F step = record { is_finite = F.is_finite; least = λ t. more (magnitude x) F.least }
+-- what is far from 0 is a normal number
+pub far_normal : {x : Float} → Far x → (step : Bool) → Normal x step
+far_normal {x} F step = record { is_finite = F.is_finite; least = λ t. more (magnitude x) F.least }
   where
-    more : (m : ℕ) → 2 ^ (1074 - 969) ≤ m → 2 ≤ m
+    more : (m : ℕ) → 2 ^ (1074 - 969) ≤ m → 2 ^ 52 ≤ m
     more m h = omega arith
 
 pub far-zero : (x : Float) → T (fits binary64 x) → Far x → NotMinusZero x

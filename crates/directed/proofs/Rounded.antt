@@ -1,11 +1,11 @@
 -- Of a sum or product that is exact as a pair, the high part or its neighbour is the number rounded outward: both are least, or greatest. Assumes nothing.
 use mathlib.Core.Path.{◌≡◌, refl, sym, ap, ◌∙◌, subst}
 use mathlib.Core.Logic.{inr}
-use mathlib.Core.Bool.{Bool, true, false, not, cond, beq, ◌||◌}
-use Prim.Native.Nat.{ℕ, ◌+◌, ◌-◌, ◌^◌, ◌<◌}
+use mathlib.Core.Bool.{Bool, true, false, cond, ◌||◌}
+use Prim.Native.Nat.{ℕ}
 use lib.IntN.{ℤ, pos, ◌+ℤ◌, ◌*ℤ◌}
-use lib.Dec.{T, ltb}
-use lib.Ieee.{Float, binary64, fits, to_bits, of_bits, nan_bits, le, neg}
+use lib.Dec.{T}
+use lib.Ieee.{Float, binary64, fits, of_bits, le, neg}
 use lib.Ieee.Fits.{add-fits, sub-fits, mul-fits}
 use lib.Ieee.Scale.{finite}
 use Rattle.exact.specs.Value.{exact}
@@ -22,36 +22,27 @@ use Rattle.cdouble.specs.Exactness.{SumRange, AtMost, InRange, IsExact}
 use Rattle.cdouble.proofs.RoundedUp.{upper_least, lower_greatest, exact-zero, zero-fits}
 use Rattle.cdouble.proofs.TwoSum.{two_sum_exact}
 use Rattle.cdouble.proofs.TwoProduct.{two_product_exact}
-use Rattle.directed.specs.Far.{Far, Clear, NotMinusZero, past}
-use Rattle.directed.proofs.Inexact.{inexact_large, far_clear, far-zero}
+use Rattle.doubles.proofs.NextRank.{neighbour}
+use Rattle.adjacent.specs.Fields.{Normal}
+use Rattle.directed.specs.Far.{Far, NotMinusZero, past}
+use Rattle.directed.proofs.Inexact.{inexact_large, far_normal, far-zero}
 use Rattle.directed.proofs.Limits.{in_range, product_at_most, far_tested}
-use Rattle.directed.proofs.Neighbour.{neighbour, stepped_no_zero, stepped_pattern, within_words}
+use Rattle.directed.proofs.Neighbour.{stepped_no_zero}
 
 -- ---- the pair's high part or its neighbour, up or down
 abbrev pub end : Bool → CDouble → Float
 end up c = cond up (upper c) (lower c)
 
-end_is : (up : Bool) (c : CDouble) → cond (past up c.lo) (neighbour up c.hi) c.hi ≡ end up c
+pub end_is : (up : Bool) (c : CDouble) → cond (past up c.lo) (neighbour up c.hi) c.hi ≡ end up c
 unfolding upper lower
 end_is true c = refl
 end_is false c = refl
 
--- what `outward` computes, by the test t and the pattern r
-module _ (up : Bool) (c : CDouble) (h : T (fits binary64 c.hi)) (C : Clear c.hi (past up c.lo)) {t : Bool} (e : t ≡ past up c.lo) where
-  pub outward_words : (T t → 0 < to_bits binary64 c.hi) × (to_bits binary64 c.hi < 2 ^ 64 - 1)
-  outward_words = within_words c.hi h t (subst (Clear c.hi) (sym e) C)
-
-  pub outward_is : {r : ℕ} → (let b = to_bits binary64 c.hi in r ≡ cond t (cond (beq up (ltb b (2 ^ 63))) (b + 1) (b - 1)) b) → T (not (nan_bits binary64 r)) × (of_bits binary64 r ≡ end up c)
-  outward_is {r} f =
-      let b = to_bits binary64 c.hi in
-      let z = stepped_pattern up c.hi h (past up c.lo) C r (f ∙ ap (λ (s : Bool). cond s (cond (beq up (ltb b (2 ^ 63))) (b + 1) (b - 1)) b) e) in
-      (z.0, z.1 ∙ end_is up c)
-
 module _ (l : ℕ) (z : ℤ) (c : CDouble) (h : T (fits binary64 c.hi)) (k : T (fits binary64 c.lo)) (E : IsExact l z c) (n : NotMinusZero c.hi) where
-  no_zero : (up : Bool) → Clear c.hi (past up c.lo) → end up c ≡ with_zero false (end up c)
+  no_zero : (up : Bool) → Normal c.hi (past up c.lo) → end up c ≡ with_zero false (end up c)
   no_zero up F = let e = end_is up c in sym (subst NotMinusZero e (stepped_no_zero up c.hi h n (past up c.lo) F))
 
-  end_rounded : (up : Bool) → Clear c.hi (past up c.lo) → end up c ≡ cond up (round_up l z) (round_down l z)
+  end_rounded : (up : Bool) → Normal c.hi (past up c.lo) → end up c ≡ cond up (round_up l z) (round_down l z)
   end_rounded true F = no_zero true F ∙ up_unique l z (upper c) (round_up l z) (upper_least l z c h k E) (round_up_law l z) ∙ up_zero l z
   end_rounded false F = no_zero false F ∙ down_unique l z (lower c) (round_down l z) (lower_greatest l z c h k E) (round_down_law l z) ∙ down_zero l z
 
@@ -68,8 +59,8 @@ module _ (a b : Float) (ha : T (fits binary64 a)) (hb : T (fits binary64 b)) (R 
   lo_fits = add-fits binary64 _ _
 
   -- a part that is not 0 is a rest
-  clear : (up : Bool) → Clear pair.hi (past up pair.lo)
-  clear up = record { is_finite = exactly.hi_finite; least = λ t. inexact_large (exact a +ℤ exact b) pair exactly (rest up t) }
+  normal : (up : Bool) → Normal pair.hi (past up pair.lo)
+  normal up = record { is_finite = exactly.hi_finite; least = λ t. inexact_large (exact a +ℤ exact b) pair exactly (rest up t) }
     where
       rest : (up : Bool) → T (past up pair.lo) → exact pair.lo ≡ pos 0 → ⊥
       rest true t e = ≺_not_≼ (lt_to plus_zero pair.lo tt exactly.lo_finite zero-fits lo_fits t) (rw (e, exact-zero) (≼_refl (pos 0)))
@@ -77,15 +68,15 @@ module _ (a b : Float) (ha : T (fits binary64 a)) (hb : T (fits binary64 b)) (R 
 
   near : (up : Bool) → end up pair ≡ cond up (sum_up a b) (sum_down a b)
   unfolding two_sum
-  near up = end_rounded 0 (exact a +ℤ exact b) pair (add-fits binary64 _ _) lo_fits exactly R.1 up (clear up) ∙ go up
+  near up = end_rounded 0 (exact a +ℤ exact b) pair (add-fits binary64 _ _) lo_fits exactly R.1 up (normal up) ∙ go up
     where
       go : (up : Bool) → cond up (round_up 0 (exact a +ℤ exact b)) (round_down 0 (exact a +ℤ exact b)) ≡ cond up (sum_up a b) (sum_down a b)
       go true = sum-finite (round_up 0) a b R.0.0.is_finite R.0.1.is_finite
       go false = sum-finite (round_down 0) a b R.0.0.is_finite R.0.1.is_finite
 
   module _ (c : CDouble) (e : c ≡ two_sum a b) where
-    pub sum_clear : (up : Bool) → Clear c.hi (past up c.lo)
-    sum_clear up = subst (λ (d : CDouble). Clear d.hi (past up d.lo)) (sym e) (clear up)
+    pub sum_normal : (up : Bool) → Normal c.hi (past up c.lo)
+    sum_normal up = subst (λ (d : CDouble). Normal d.hi (past up d.lo)) (sym e) (normal up)
 
     pub sum_is : (up : Bool) → end up c ≡ cond up (sum_up a b) (sum_down a b)
     sum_is up = ap (end up) e ∙ near up
@@ -101,7 +92,7 @@ module _ (a b : Float) (ha : T (fits binary64 a)) (hb : T (fits binary64 b)) (ra
   product_end up F =
       end_rounded 1074 (exact a *ℤ exact b) (two_product a b) (mul-fits binary64 a b) (sub-fits binary64 _ _)
       (two_product_exact a b ha hb (inr (inr (range F)))) (far-zero (a ⊗ b) (mul-fits binary64 a b) F) up
-      (far_clear F (past up (two_product a b).lo))
+      (far_normal F (past up (two_product a b).lo))
       ∙ go up
     where
       go : (up : Bool) → cond up (round_up 1074 (exact a *ℤ exact b)) (round_down 1074 (exact a *ℤ exact b)) ≡ cond up (product_up a b) (product_down a b)

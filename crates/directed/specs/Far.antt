@@ -1,4 +1,4 @@
--- Doubles that are not near 0, or not where it matters. Assumes nothing.
+-- Doubles that are not near 0, or not -0, and on which side of 0 a rest lies. Assumes nothing.
 use Rattle.std.specs.Prelude.{◌≡◌, Bool, false, cond, ◌^◌, ◌-◌, ◌≤◌, T, Float}
 use Rattle.std.specs.Float.Ieee.{lt}
 use Rattle.std.specs.Float.Ieee.Scale.{finite}
@@ -10,11 +10,6 @@ use Rattle.cdouble.specs.Compensated.{plus_zero}
 pub record Far (x : Float) : Type 0 where
   pub is_finite : T (finite x)
   pub least : 2 ^ (1074 - 969) ≤ magnitude x
-
--- finite, and where a neighbour is asked for, at least two units from 0, so that neither neighbour is 0
-pub record Clear (x : Float) (step : Bool) : Type 0 where
-  pub is_finite : T (finite x)
-  pub least : T step → 2 ≤ magnitude x
 
 -- not −0
 abbrev pub NotMinusZero : Float → Type 0

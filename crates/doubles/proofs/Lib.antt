@@ -12,3 +12,8 @@ pub mod Bounding
 pub mod Choice
 pub mod Ends
 pub mod Clear
+pub mod PowersOfTwo
+pub mod FirstCase
+pub mod NextRank
+pub mod CaseSteps
+pub mod CaseAnswers

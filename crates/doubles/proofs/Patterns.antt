@@ -21,8 +21,10 @@ field_value : (s : Bool) (x t : ℕ) → x < 2047 → t < 2 ^ 52 → HasValue (o
 unfolding of_fields
 field_value s zero t X Y = subst (λ (v : ℕ). HasValue (odd 53 s t 0 1074) s v (2 ^ 1074)) (sym (at_rank_form 52 0 t (inl refl) (omega arith))) (odd_sign 53 s t 0 1074)
 field_value s (suc x) t X Y =
-    subst (λ (y : Float). HasValue y s (at_rank 52 (suc x * 2 ^ 52 + t)) (2 ^ 1074)) (sym (cond_no (eqb (suc x) 2047) (cond (eqb t 0) (inf s) nan) (odd 53 s (2 ^ 52 + t) x 1074) (not_T (eqb (suc x) 2047) (λ h. differ (eqb→eq (suc x) 2047 h)))))
-    (subst (λ (v : ℕ). HasValue (odd 53 s (2 ^ 52 + t) x 1074) s v (2 ^ 1074)) (sym (ap (at_rank 52) same ∙ at_rank_form 52 x (2 ^ 52 + t) (inr (omega arith)) (omega arith))) (odd_sign 53 s (2 ^ 52 + t) x 1074))
+    subst (λ (y : Float). HasValue y s (at_rank 52 (suc x * 2 ^ 52 + t)) (2 ^ 1074))
+    (sym (cond_no (eqb (suc x) 2047) (cond (eqb t 0) (inf s) nan) (odd 53 s (2 ^ 52 + t) x 1074) (not_T (eqb (suc x) 2047) (λ h. differ (eqb→eq (suc x) 2047 h)))))
+    (subst (λ (v : ℕ). HasValue (odd 53 s (2 ^ 52 + t) x 1074) s v (2 ^ 1074))
+    (sym (ap (at_rank 52) same ∙ at_rank_form 52 x (2 ^ 52 + t) (inr (omega arith)) (omega arith))) (odd_sign 53 s (2 ^ 52 + t) x 1074))
   where
     differ : suc x ≡ 2047 → ⊥
     differ e = omega arith
@@ -32,11 +34,26 @@ field_value s (suc x) t X Y =
 
 fields : (s : Bool) (b r : ℕ) → leb (2 ^ 63) b ≡ s → b % 2 ^ 63 ≡ r → b % 2 ^ 52 ≡ r % 2 ^ 52 → of_bits binary64 b ≡ of_fields binary64 s (r / 2 ^ 52) (r % 2 ^ 52)
 unfolding of_bits
-fields s b r e f g = ap (λ (z : Bool). of_fields binary64 z (b % 2 ^ 63 / 2 ^ 52) (b % 2 ^ 52)) e ∙ ap (λ (z : ℕ). of_fields binary64 s (z / 2 ^ 52) (b % 2 ^ 52)) f ∙ ap (λ (z : ℕ). of_fields binary64 s (r / 2 ^ 52) z) g
+fields s b r e f g =
+    ap (λ (z : Bool). of_fields binary64 z (b % 2 ^ 63 / 2 ^ 52) (b % 2 ^ 52)) e
+    ∙ ap (λ (z : ℕ). of_fields binary64 s (z / 2 ^ 52) (b % 2 ^ 52)) f
+    ∙ ap (λ (z : ℕ). of_fields binary64 s (r / 2 ^ 52) z) g
 
 double_fields : (s : Bool) (r : ℕ) → r < 2 ^ 63 → double s r ≡ of_fields binary64 s (r / 2 ^ 52) (r % 2 ^ 52)
 double_fields false r h = fields false r r (is_false (leb (2 ^ 63) r) (not_T (leb (2 ^ 63) r) (λ t. not-le_of_lt h (leb→le (2 ^ 63) r t)))) (omega arith) refl
 double_fields true r h = fields true (2 ^ 63 + r) r (is_true (leb (2 ^ 63) (2 ^ 63 + r)) (le→leb (2 ^ 63) (2 ^ 63 + r) (omega arith))) (omega arith) (omega arith)
+
+pub fields_double : (s : Bool) (x t : ℕ) → x < 2 ^ 11 → t < 2 ^ 52 → of_fields binary64 s x t ≡ double s (x * 2 ^ 52 + t)
+fields_double s x t X Y =
+    ap (λ (e : ℕ). of_fields binary64 s e t) (quotient x t Y)
+    ∙ ap (of_fields binary64 s ((x * 2 ^ 52 + t) / 2 ^ 52)) (rest x t Y)
+    ∙ sym (double_fields s (x * 2 ^ 52 + t) (omega arith))
+  where
+    quotient : (x t : ℕ) → t < 2 ^ 52 → x ≡ (x * 2 ^ 52 + t) / 2 ^ 52
+    quotient x t Y = omega arith
+
+    rest : (x t : ℕ) → t < 2 ^ 52 → t ≡ (x * 2 ^ 52 + t) % 2 ^ 52
+    rest x t Y = omega arith
 
 double_value : (s : Bool) (r : ℕ) → r < infinity → HasValue (double s r) s (at_rank 52 r) (2 ^ 1074)
 double_value s r h =
@@ -77,7 +94,7 @@ neg_cond : (b : Bool) (x y : Float) → neg (cond b x y) ≡ cond b (neg x) (neg
 neg_cond true x y = refl
 neg_cond false x y = refl
 
-neg_fields : (s : Bool) (x t : ℕ) → neg (of_fields binary64 s x t) ≡ of_fields binary64 (not s) x t
+pub neg_fields : (s : Bool) (x t : ℕ) → neg (of_fields binary64 s x t) ≡ of_fields binary64 (not s) x t
 unfolding of_fields neg
 neg_fields s zero t = neg_odd 53 s t 0 1074
 neg_fields s (suc x) t =

@@ -1,3 +1,4 @@
 pub mod Directed
 pub mod Neighbours
 pub mod Compare
+pub mod Cases

@@ -1,4 +1,4 @@
-// Runs the crates `double_bits` and `outward_rounding` on the table of standard input, which
+// Runs the crates `double_bits`, `adjacent` and `outward_rounding` on the table of standard input, which
 // tests/edge_table/generate.py writes, and says for each operation how many cases were run and how many differ from the
 // table.
 //
@@ -53,8 +53,8 @@ impl Operation {
             Operation::IsFinite => u64::from(double_bits::is_finite(a)),
             Operation::Max => bits_of(double_bits::max(a, b)),
             Operation::Min => bits_of(double_bits::min(a, b)),
-            Operation::NextUp => bits_of(double_bits::next_up(a)),
-            Operation::NextDown => bits_of(double_bits::next_down(a)),
+            Operation::NextUp => bits_of(adjacent::next_up(a)),
+            Operation::NextDown => bits_of(adjacent::next_down(a)),
             Operation::SumUp => bits_of(outward_rounding::rounded_sum::<true>(a, b)),
             Operation::SumDown => bits_of(outward_rounding::rounded_sum::<false>(a, b)),
             Operation::ProductDown => bits_of(outward_rounding::product_bounds(a, b).down),

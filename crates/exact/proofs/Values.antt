@@ -3,7 +3,8 @@ use mathlib.Core.Path.{◌≡◌, refl, sym, ap, ◌∙◌, subst}
 use mathlib.Core.Logic.{inl, inr}
 use mathlib.Core.Bool.{Bool, true, false, ◌&&◌}
 use Prim.Native.Nat.{ℕ, zero, suc, ◌+◌, ◌-◌, ◌*◌, ◌/◌, ◌%◌, ◌^◌, ◌≤◌, ◌<◌}
-use native.Mathlib.Nat.{lt_of_lt_of_le, lt_of_le_of_lt, lt_of_mul-lt-mul_right, le_of_eq, not-le_of_lt, mul_assoc, mul_comm, mul-one, mul_right_comm, mul-div_cancel, mul-lt-mul_of_pos_right, zero-mul, dvd-mul_left}
+use native.Mathlib.Nat.{lt_of_lt_of_le, lt_of_le_of_lt, lt_of_mul-lt-mul_right, le_of_eq, not-le_of_lt}
+use native.Mathlib.Nat.{mul_assoc, mul_comm, mul-one, mul_right_comm, mul-div_cancel, mul-lt-mul_of_pos_right, zero-mul, dvd-mul_left}
 use native.Mathlib.Omega.{arith}
 use lib.IntN.{ℤ, pos, negsuc, neg_ℤ, nat_abs, ◌*ℤ◌}
 use lib.Dec.{T, leb, ltb, eqb, ltb→lt, leb→le}
@@ -103,6 +104,12 @@ unfolding neg
 finite-neg nan = refl
 finite-neg (inf s) = refl
 finite-neg (fin s m e) = refl
+
+pub magnitude-neg : (x : Float) → magnitude (neg x) ≡ magnitude x
+unfolding magnitude neg
+magnitude-neg nan = refl
+magnitude-neg (inf s) = refl
+magnitude-neg (fin s m e) = refl
 
 pub exact-neg : (x : Float) → exact (neg x) ≡ neg_ℤ (exact x)
 unfolding exact neg magnitude

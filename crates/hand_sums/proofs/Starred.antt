@@ -13,11 +13,11 @@ use Rattle.cdouble.specs.Compensated.{two_sum, split, product_error, two_product
 use Rattle.tolerances.specs.BandEdge.{band_start, too_far, step_back, turns, band_edge}
 use Rattle.hand_sums.specs.Starred.{Example, starred}
 
-unfoldable arithmetic_computes : ⊤
+unfoldable pub arithmetic_computes : ⊤
 unfolding to_bits of_bits of_fields odd count_trailing_zeros size units round neg sum add sub mul div lt is_nan of_int
 arithmetic_computes = tt
 
-unfoldable rounding_computes : ⊤
+unfoldable pub rounding_computes : ⊤
 unfolding exact magnitude rank rank_down rank_up product_with round_up round_down next_up next_down absolute larger
 rounding_computes = tt
 

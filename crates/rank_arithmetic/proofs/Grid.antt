@@ -32,7 +32,7 @@ module _ (q : ℕ) where
   leading = 2 ^ q
 
   -- they make up the rank, and the significand has its leading one unless the exponent is 0
-  parts : (r : ℕ) → (exponent q r * leading + significand q r ≡ r) × ((exponent q r ≡ 0) ⊎ (leading ≤ significand q r)) × (significand q r < leading + leading)
+  pub parts : (r : ℕ) → (exponent q r * leading + significand q r ≡ r) × ((exponent q r ≡ 0) ⊎ (leading ≤ significand q r)) × (significand q r < leading + leading)
   parts r = go (r / leading) (div-add-mod' r leading) (mod-lt r (pow_pos q))
     where
       go : (a : ℕ) → a * leading + r % leading ≡ r → r % leading < leading
@@ -57,12 +57,15 @@ module _ (q : ℕ) where
   at_rank_form k m l s = ap (λ (x : ℕ). (k * leading + m - x * leading) * 2 ^ x) (exponent_form k m l s) ∙ ap (λ (x : ℕ). x * 2 ^ k) (add-sub_cancel_left (k * leading) m)
 
   -- the next one has the same exponent and one digit more, though that may carry
-  at_rank_next : (k m : ℕ) → (k ≡ 0) ⊎ (leading ≤ m) → m < leading + leading → at_rank q (suc (k * leading + m)) ≡ m * 2 ^ k + 2 ^ k
+  pub at_rank_next : (k m : ℕ) → (k ≡ 0) ⊎ (leading ≤ m) → m < leading + leading → at_rank q (suc (k * leading + m)) ≡ m * 2 ^ k + 2 ^ k
   at_rank_next k m l s =
       elim (le_or_lt (leading + leading) (suc m)) [
         | inl a ↦
             let e : suc (k * leading + m) ≡ suc k * leading + leading = omega (arith, suc-mul k leading) in
-            ap (at_rank q) e ∙ at_rank_form (suc k) leading (inr (le_refl leading)) (omega (arith, pow_pos q)) ∙ ap (λ (x : ℕ). leading * x) (two-pow-succ k) ∙ full leading m (2 ^ k) (omega arith)
+            ap (at_rank q) e
+            ∙ at_rank_form (suc k) leading (inr (le_refl leading)) (omega (arith, pow_pos q))
+            ∙ ap (λ (x : ℕ). leading * x) (two-pow-succ k)
+            ∙ full leading m (2 ^ k) (omega arith)
         | inr a ↦
             let e : suc (k * leading + m) ≡ k * leading + suc m = omega arith in
             ap (at_rank q) e ∙ at_rank_form k (suc m) (elim l [ inl z ↦ inl z | inr b ↦ inr (omega arith) ]) a ∙ suc-mul m (2 ^ k)

@@ -5,7 +5,8 @@ ghost use Rattle.std.specs.Float.Ieee.Scale.{finite};
 ghost use Rattle.cdouble.specs.Compensated.{plus_zero};
 ghost use Rattle.tolerances.specs.BandEdge.{band_edge, IsBandEdge};
 
-use double_bits::{abs, next_down, next_up};
+use adjacent::{next_down, next_up};
+use double_bits::abs;
 
 /// `bound` moved out by `tol`, above it or below, and back by a double where rounding took it too far. The Rust steps back in
 /// a loop, which takes one step at most wherever it ends.

@@ -1,0 +1,3 @@
+mod FieldCases
+mod FieldNext
+mod Stepping
