@@ -11,7 +11,7 @@ pub(crate) const MOST_END: f64 = 1.1235582092889474e307;
 /// 2^1022, up to which `two_sum` is exact.
 pub(crate) const MOST_ADDEND: f64 = 4.49423283715579e307;
 
-/// 2^-969, from which on a rounded product shows its error. The neighbours of what is no nearer to 0 are one pattern away.
+/// 2^-969, from which on a rounded product shows its error. What is no nearer to 0 is a normal number.
 pub(crate) const LEAST: f64 = 2.004168360008973e-292;
 
 /// Whether `x` lies from `-most` to `most`.

@@ -9,8 +9,7 @@ use crate::ranges::{MOST_ADDEND, within};
 use crate::stepped::outward;
 use cdouble::CDouble;
 
-/// `a + b` rounded up (`UP`) or down, in the range of `two_sum`. A sum that is not exact is large enough for its neighbours
-/// not to be 0.
+/// `a + b` rounded up (`UP`) or down, in the range of `two_sum`. A sum that is not exact is a normal number.
 pub(crate) fn near_sum<const UP: bool>(a: f64, b: f64) -> f64
     requires { SumRange a b × NotMinusZero (a ⊕ b) }
     ensures { result ≡ cond UP (sum_up a b) (sum_down a b) }

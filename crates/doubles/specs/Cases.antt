@@ -68,10 +68,11 @@ first_case nan = Nan
 first_case (inf s) = Infinity
 first_case (fin s m e) = of_magnitude (magnitude (fin s m e))
 
--- "what value next up and next down answer". Of a double of sign +, in its case, with n units: y is next up …
+-- finite, and exactly z units
 abbrev pub Value : ℤ → Float → Type 0
 Value z y = T (finite y) × (exact y ≡ z)
 
+-- "what value next up and next down answer": of a double of sign +, in its case, with n units, y is next up …
 abbrev pub Above : Case → ℕ → Float → Type 0
 Above Nan n y = y ≡ nan
 Above Infinity n y = y ≡ inf false
