@@ -41,5 +41,6 @@ above_one r l = omega arith
 pub stepped_no_zero : (up : Bool) (x : Float) → T (fits binary64 x) → NotMinusZero x → (step : Bool) → Normal x step → NotMinusZero (cond step (neighbour up x) x)
 stepped_no_zero up x h n true C =
     let f = C.is_finite in
-    subst (λ (y : Float). NotMinusZero (neighbour up y)) (sym (pattern x (finite_no_nan x f) h).same) (next_nonzero up (sign x) (rank_of x) (above_one (rank_of x) (normal_rank x h f (C.least tt))) (ranked x f h).small)
+    subst (λ (y : Float). NotMinusZero (neighbour up y)) (sym (pattern x (finite_no_nan x f) h).same)
+    (next_nonzero up (sign x) (rank_of x) (above_one (rank_of x) (normal_rank x h f (C.least tt))) (ranked x f h).small)
 stepped_no_zero up x h n false C = n
