@@ -37,7 +37,7 @@ static const double second[ROWS] = {0};
 static double high[VARIABLES], low[VARIABLES], magnitudes[VARIABLES], errors[VARIABLES];
 static uint32_t terms[VARIABLES];
 
-static struct ushnazar_verdict weigh_slices(void)
+static struct ushnazar_answer weigh_slices(void)
 {
     /* no item is widened: a list of no place still begins somewhere */
     static const struct ushnazar_widened widened[1] = {{0, 0}};
@@ -50,22 +50,6 @@ static struct ushnazar_verdict weigh_slices(void)
         low_tolerances, VARIABLES, high_tolerances, VARIABLES,
         basic, VARIABLES, places, VARIABLES, values, VARIABLES,
         rho_hi, ROWS, rho_lo, ROWS, second, ROWS);
-}
-
-/* The same, with the widened list as two lists. */
-static struct ushnazar_verdict weigh_two_lists(void)
-{
-    static const size_t widened_vars[1] = {0};
-    static const uint8_t widened_ups[1] = {0};
-
-    return verdict_of(
-        ROWS, STRUCTURALS, ENTRIES, 0.0, 0, 0, 0,
-        high, VARIABLES, low, VARIABLES, magnitudes, VARIABLES, terms, VARIABLES, errors, VARIABLES,
-        starts, ROWS + 1, columns, ENTRIES, entries, ENTRIES, right_sides, ROWS, scales, ROWS,
-        integer, STRUCTURALS, mins, VARIABLES, maxs, VARIABLES,
-        low_tolerances, VARIABLES, high_tolerances, VARIABLES,
-        basic, VARIABLES, places, VARIABLES, values, VARIABLES,
-        widened_vars, 0, widened_ups, 0, rho_hi, ROWS, rho_lo, ROWS, second, ROWS);
 }
 
 static const char *said(bool flag)
@@ -83,21 +67,23 @@ static void print_double(const char *name, double x)
     printf("(%s %016" PRIX64 ")\n", name, bits);
 }
 
-static void print_verdict(const struct ushnazar_verdict *v)
+static void print_answer(const struct ushnazar_answer *answer)
 {
-    if (v->refusal != USHNAZAR_ACCEPTED) {
-        printf("(refused %" PRIu32 ")\n", v->refusal);
+    const struct ushnazar_verdict *verdict = &answer->verdict;
+    const struct ushnazar_proof *proof = &verdict->proof;
+    if (answer->refusal != USHNAZAR_ACCEPTED) {
+        printf("(refused %" PRIu32 ")\n", answer->refusal);
         return;
     }
-    printf("(holds %s)\n", said(v->holds));
-    print_double("gap", v->gap);
-    print_double("allowance", v->allowance);
-    print_double("cut", v->cut);
-    printf("(zero-within-error %zu)\n", v->zero_within_error);
-    printf("(multipliers-zeroed %zu)\n", v->multipliers_zeroed);
-    printf("(rows %zu)\n", v->rows);
-    print_double("outward", v->outward);
-    printf("(declined %s)\n", said(v->declined));
+    printf("(holds %s)\n", said(proof->holds));
+    print_double("gap", proof->gap);
+    print_double("allowance", proof->allowance);
+    print_double("cut", proof->cut);
+    printf("(zero-within-error %zu)\n", proof->zero_within_error);
+    printf("(multipliers-zeroed %zu)\n", proof->multipliers_zeroed);
+    printf("(rows %zu)\n", proof->rows);
+    print_double("outward", verdict->outward);
+    printf("(declined %s)\n", said(verdict->declined));
 }
 
 static void print_sum(const char *name, struct ushnazar_cdouble sum)
@@ -121,17 +107,14 @@ static void add_in_place(void)
 
 int main(void)
 {
-    struct ushnazar_verdict verdict = weigh_slices();
+    struct ushnazar_answer answer = weigh_slices();
     puts("sheet_verdict:");
-    print_verdict(&verdict);
-    verdict = weigh_two_lists();
-    puts("verdict_of:");
-    print_verdict(&verdict);
+    print_answer(&answer);
 
-    uint8_t answer[USHNAZAR_MOST_ANSWER];
-    size_t length = weigh_text((const uint8_t *)sheet, strlen(sheet), answer, sizeof answer);
+    uint8_t text[USHNAZAR_MOST_ANSWER];
+    size_t length = weigh_text((const uint8_t *)sheet, strlen(sheet), text, sizeof text);
     puts("weigh_text:");
-    fwrite(answer, 1, length, stdout);
+    fwrite(text, 1, length, stdout);
 
     add_in_place();
     return 0;

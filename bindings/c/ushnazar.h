@@ -69,10 +69,8 @@ enum ushnazar_refusal {
     USHNAZAR_LEAVING_ROW = 12
 };
 
-/* The answer. Where the sheet is refused every field but the first is 0 or false. */
-struct ushnazar_verdict {
-    /* 0, or the number of the first question whose answer is no: an enum ushnazar_refusal. */
-    uint32_t refusal;
+/* The kept numbers: the solver's judgement, and what it is made of. */
+struct ushnazar_proof {
     /* The solver's judgement, but for the rounding that the allowance speaks of: its certificate holds. An order is not to be
        declined on it alone. */
     bool holds;
@@ -91,11 +89,23 @@ struct ushnazar_verdict {
     size_t multipliers_zeroed;
     /* How many rows the certificate combines. */
     size_t rows;
+};
+
+/* The verdict on a sheet that no question refuses. */
+struct ushnazar_verdict {
+    struct ushnazar_proof proof;
     /* The gap over the widened ranges, every step rounded so that it is never too high; or -infinity. Above 0 it rules out
        every point in these ranges. */
     double outward;
     /* `holds`, and the outward gap is above 0: the order may be declined. */
     bool declined;
+};
+
+/* The answer. Where the sheet is refused every field of the verdict is 0 or false. */
+struct ushnazar_answer {
+    /* 0, or the number of the first question whose answer is no: an enum ushnazar_refusal. */
+    uint32_t refusal;
+    struct ushnazar_verdict verdict;
 };
 
 /* An item of the widened list: the solver widened this side of this variable. */
@@ -114,7 +124,7 @@ struct ushnazar_cdouble {
 /* The layout that the archive was made for. A compiler with another one stops here. */
 typedef char ushnazar_size_is_of_64_bits[sizeof(size_t) == 8 ? 1 : -1];
 typedef char ushnazar_double_is_of_64_bits[sizeof(double) == 8 ? 1 : -1];
-typedef char ushnazar_verdict_is_of_72_bytes[sizeof(struct ushnazar_verdict) == 72 ? 1 : -1];
+typedef char ushnazar_answer_is_of_80_bytes[sizeof(struct ushnazar_answer) == 80 ? 1 : -1];
 typedef char ushnazar_widened_is_of_16_bytes[sizeof(struct ushnazar_widened) == 16 ? 1 : -1];
 typedef char ushnazar_cdouble_is_of_16_bytes[sizeof(struct ushnazar_cdouble) == 16 ? 1 : -1];
 
@@ -127,7 +137,7 @@ typedef char ushnazar_cdouble_is_of_16_bytes[sizeof(struct ushnazar_cdouble) == 
  * where the sheet is refused everything stays as it was. Nothing depends on what these lists held before, and they need
  * not be set.
  */
-struct ushnazar_verdict sheet_verdict(
+struct ushnazar_answer sheet_verdict(
     const struct ushnazar_widened *widened, size_t widened_length,  /* m: the widened items */
     size_t rows,
     size_t structurals,
@@ -157,42 +167,6 @@ struct ushnazar_verdict sheet_verdict(
     const double *rho_hi, size_t rho_hi_length,                    /* rows: each row's multiplier, */
     const double *rho_lo, size_t rho_lo_length,                    /* rows: as a sum of two */
     const double *second, size_t second_length);                   /* rows, also when unchecked */
-
-/*
- * The same with the widened list as two lists, for callers who hold it so: the answer and what is written are those of
- * sheet_verdict with these variables and sides as records. Lists of unlike length are refused with USHNAZAR_LENGTHS.
- */
-struct ushnazar_verdict verdict_of(
-    size_t rows,
-    size_t structurals,
-    size_t entry_count,
-    double feasibility,
-    uint8_t checked,
-    size_t leaving_row,
-    uint8_t leaving_up,
-    double *high, size_t high_length,
-    double *low, size_t low_length,
-    double *magnitudes, size_t magnitudes_length,
-    uint32_t *terms, size_t terms_length,
-    double *errors, size_t errors_length,
-    const size_t *starts, size_t starts_length,
-    const size_t *columns, size_t columns_length,
-    const double *entries, size_t entries_length,
-    const double *right_sides, size_t right_sides_length,
-    const double *scales, size_t scales_length,
-    const uint8_t *integer, size_t integer_length,
-    const double *mins, size_t mins_length,
-    const double *maxs, size_t maxs_length,
-    const double *low_tolerances, size_t low_tolerances_length,
-    const double *high_tolerances, size_t high_tolerances_length,
-    const uint8_t *basic, size_t basic_length,
-    const size_t *places, size_t places_length,
-    const double *values, size_t values_length,
-    const size_t *widened_vars, size_t widened_vars_length,  /* m: the variable */
-    const uint8_t *widened_ups, size_t widened_ups_length,   /* m: a flag, set for the upper side */
-    const double *rho_hi, size_t rho_hi_length,
-    const double *rho_lo, size_t rho_lo_length,
-    const double *second, size_t second_length);
 
 /*
  * The verdict on a sheet in text, as text: nine lines, or one line `(refused 7)`, each ended by a newline byte. The answer

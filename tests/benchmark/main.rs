@@ -1,6 +1,5 @@
 //! Times the full verdict against the unmodified Rust's `proof_of` and an outward reckoning in C, in one process on
-//! the same sheets. The verdict is `sheet_verdict`'s; the last column has the ratio of `verdict_of`, which takes the
-//! widened list as two lists.
+//! the same sheets.
 //!
 //!     --seed N          the seed of the sheets, else 1
 //!     --repetitions N   how often each side is timed, else 400
@@ -30,9 +29,9 @@ mod rust;
 mod sheet;
 mod verdict;
 
-use generate::{class_of, timed, Rng};
-use library::Entry;
-use rust::{answer, reckon, Multipliers, Solver};
+use generate::{Rng, class_of, timed};
+use library::Answer;
+use rust::{Multipliers, Solver, answer, reckon};
 use sheet::Sheet;
 use std::hint::black_box;
 use std::time::Instant;
@@ -55,14 +54,11 @@ fn sheets(seed: u64, entries: usize, checked: bool, count: usize) -> Vec<Sheet> 
     while found.len() < count {
         let sheet = timed(&mut rng, entries, checked);
         let gap = outward::outward(&sheet);
-        let [here, other] = Entry::ALL.map(|entry| Lent::of(&sheet).verdict(&sheet, entry));
-        for verdict in [here, other] {
-            assert_eq!(verdict.refusal, 0);
-            assert_eq!(verdict.gap.to_bits(), answer(&sheet).gap.to_bits());
-            assert_eq!(verdict.outward.to_bits(), gap.to_bits());
-            assert_eq!(verdict.declined, here.declined);
-        }
-        if here.declined != 0 {
+        let Answer { refusal, verdict } = Lent::of(&sheet).verdict(&sheet);
+        assert_eq!(refusal, 0);
+        assert_eq!(verdict.proof.gap.to_bits(), answer(&sheet).gap.to_bits());
+        assert_eq!(verdict.outward.to_bits(), gap.to_bits());
+        if verdict.declined != 0 {
             found.push(sheet);
         }
     }
@@ -81,10 +77,7 @@ fn bench(seed: u64, repetitions: u64, few: Option<u64>) {
         Some(count) => println!("seed {seed}; ns for a sheet, fastest of {repetitions} turns over {count} sheets"),
         None => println!("seed {seed}; ns for a sheet, fastest of {repetitions} turns over {ENTRIES} entries"),
     }
-    println!(
-        "{:>8} {:>10} {:>8} {:>8} {:>8} {:>7} {:>10} {:>10}",
-        "entries", "", "verdict", "Rust", "C", "ratio", "ns/entry", "two lists"
-    );
+    println!("{:>8} {:>10} {:>8} {:>8} {:>8} {:>7} {:>10}", "entries", "", "verdict", "Rust", "C", "ratio", "ns/entry");
     for checked in [false, true] {
         for entries in SIZES {
             let sheets = sheets(seed, entries, checked, few.map_or(ENTRIES / entries, |count| count as usize));
@@ -93,11 +86,11 @@ fn bench(seed: u64, repetitions: u64, few: Option<u64>) {
                 .iter()
                 .map(|sheet| (Solver::of(sheet), Multipliers::of(sheet), sheet.leaving_row, sheet.leaving_up != 0))
                 .collect();
-            let [mut verdict, mut two_lists, mut rust, mut c] = [f64::INFINITY; 4];
+            let [mut verdict, mut rust, mut c] = [f64::INFINITY; 3];
             for _ in 0..repetitions {
                 time(&mut verdict, || {
                     for (sheet, lent) in sheets.iter().zip(&mut lent) {
-                        black_box(lent.verdict(black_box(sheet), Entry::Records));
+                        black_box(lent.verdict(black_box(sheet)));
                     }
                 });
                 time(&mut rust, || {
@@ -110,18 +103,11 @@ fn bench(seed: u64, repetitions: u64, few: Option<u64>) {
                         black_box(outward::outward(black_box(sheet)));
                     }
                 });
-                time(&mut two_lists, || {
-                    for (sheet, lent) in sheets.iter().zip(&mut lent) {
-                        black_box(lent.verdict(black_box(sheet), Entry::Lists));
-                    }
-                });
             }
-            let [verdict, two_lists, rust, c] = [verdict, two_lists, rust, c].map(|all| all / sheets.len() as f64);
+            let [verdict, rust, c] = [verdict, rust, c].map(|all| all / sheets.len() as f64);
             let how = if checked { "checked" } else { "unchecked" };
-            let (ratio, other, each) = (verdict / (rust + c), two_lists / (rust + c), verdict / entries as f64);
-            println!(
-                "{entries:>8} {how:>10} {verdict:>8.0} {rust:>8.0} {c:>8.0} {ratio:>7.2} {each:>10.1} {other:>10.2}"
-            );
+            let (ratio, each) = (verdict / (rust + c), verdict / entries as f64);
+            println!("{entries:>8} {how:>10} {verdict:>8.0} {rust:>8.0} {c:>8.0} {ratio:>7.2} {each:>10.1}");
         }
     }
 }
@@ -132,7 +118,7 @@ fn check(seed: u64, count: u64) {
     for at in 0..count {
         let sheet = generate::sheet(&mut Rng::of(seed, at), class_of(at), false);
         if sheet.first_no() == 0 {
-            let here = Lent::of(&sheet).verdict(&sheet, Entry::Records).outward;
+            let here = Lent::of(&sheet).verdict(&sheet).verdict.outward;
             let there = outward::outward(&sheet);
             accepted += 1;
             finite += here.is_finite() as u64;

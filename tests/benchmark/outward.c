@@ -17,6 +17,12 @@ enum { MOST_ROWS = 128, MOST_VARIABLES = 384 };
 static const double unit_roundoff = 0x1p-53;
 static const double roundoff_floor = 1e-14;
 
+/* an item of the widened list */
+struct widened {
+    size_t variable;
+    uint8_t up;
+};
+
 struct sheet {
     size_t rows, structurals;
     double feasibility;
@@ -29,8 +35,7 @@ struct sheet {
     const uint8_t *basic;
     const size_t *places;
     const double *values;
-    const size_t *widened_vars;
-    const uint8_t *widened_ups;
+    const struct widened *widened;
     size_t widened_count;
     const double *rho_hi, *rho_lo, *second;
 };
@@ -104,7 +109,7 @@ static double slack_room(const struct sheet *s, size_t r) {
 
 static int is_widened(const struct sheet *s, size_t v, int up) {
     for (size_t k = 0; k < s->widened_count; k++)
-        if (s->widened_vars[k] == v && (s->widened_ups[k] != 0) == up)
+        if (s->widened[k].variable == v && (s->widened[k].up != 0) == up)
             return 1;
     return 0;
 }
@@ -226,12 +231,11 @@ double outward_in_c(size_t rows, size_t structurals, double feasibility, uint8_t
                     uint8_t leaving_up, const size_t *starts, const size_t *columns, const double *entries,
                     const double *right_sides, const double *scales, const uint8_t *integer, const double *mins,
                     const double *maxs, const double *low_tolerances, const double *high_tolerances,
-                    const uint8_t *basic, const size_t *places, const double *values, const size_t *widened_vars,
-                    const uint8_t *widened_ups, size_t widened_count, const double *rho_hi, const double *rho_lo,
-                    const double *second) {
+                    const uint8_t *basic, const size_t *places, const double *values, const struct widened *widened,
+                    size_t widened_count, const double *rho_hi, const double *rho_lo, const double *second) {
     struct sheet s = {rows,    structurals, feasibility,    checked,         leaving_up, leaving_row, starts, columns,
                       entries, right_sides, scales,         integer,         mins,       maxs,        low_tolerances,
-                      high_tolerances,      basic,          places,          values,     widened_vars, widened_ups,
-                      widened_count,        rho_hi,         rho_lo,          second};
+                      high_tolerances,      basic,          places,          values,     widened,    widened_count,
+                      rho_hi,  rho_lo,      second};
     return gap_of(&s);
 }

@@ -1,5 +1,5 @@
 //! The outward gap in C (outward.c).
-use crate::sheet::Sheet;
+use crate::sheet::{Sheet, Widened};
 
 #[rustfmt::skip]
 unsafe extern "C" {
@@ -14,7 +14,7 @@ unsafe extern "C" {
         integer: *const u8,
         mins: *const f64, maxs: *const f64, low_tolerances: *const f64, high_tolerances: *const f64,
         basic: *const u8, places: *const usize, values: *const f64,
-        widened_vars: *const usize, widened_ups: *const u8, widened_count: usize,
+        widened: *const Widened, widened_count: usize,
         rho_hi: *const f64, rho_lo: *const f64, second: *const f64,
     ) -> f64;
 }
@@ -35,7 +35,7 @@ pub fn outward(sheet: &Sheet) -> f64 {
             sheet.integer.as_ptr(),
             sheet.mins.as_ptr(), sheet.maxs.as_ptr(), sheet.low_tolerances.as_ptr(), sheet.high_tolerances.as_ptr(),
             sheet.basic.as_ptr(), sheet.places.as_ptr(), sheet.values.as_ptr(),
-            sheet.widened_vars.as_ptr(), sheet.widened_ups.as_ptr(), sheet.widened_vars.len(),
+            sheet.widened.as_ptr(), sheet.widened.len(),
             sheet.rho_hi.as_ptr(), sheet.rho_lo.as_ptr(), sheet.second.as_ptr(),
         )
     }

@@ -22,7 +22,7 @@ def read(lines):
     found = {}
     for line in lines:
         words = line.split()
-        if len(words) == 8 and words[1] in ('checked', 'unchecked'):
+        if len(words) == 7 and words[1] in ('checked', 'unchecked'):
             entries, state = int(words[0]), words[1]
             verdict, rust, c = (float(word) for word in words[2:5])
             found.setdefault(('verdict', state), {})[entries] = verdict

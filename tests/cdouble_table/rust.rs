@@ -1,5 +1,5 @@
 //! Holds the table's answers to the Rust that the crate cdouble follows, bit for bit, a NaN counted
-//! as one. The script compare cuts that Rust out of its document, and says by CUT where it put it.
+//! as one. That Rust is cut out of its documents (tests/cut.py) into a folder that CUT names.
 //!
 //! Left out are the products of finite factors where request 5 of document 02 promises another than
 //! the Rust has. The table's answer to every such product must be the promised one, worked out here
@@ -9,7 +9,8 @@
 use std::cmp::Ordering;
 
 mod proof {
-    include!(env!("CUT"));
+    include!(concat!(env!("CUT"), "/sums.rs"));
+    include!(concat!(env!("CUT"), "/mul_up.rs"));
 
     // below the module, so that it sees what is private there
     pub mod table {

@@ -1,7 +1,7 @@
 //! What is lent for a call, and the call.
 use crate::lent::{Item, Lending, Lent};
-use crate::library::{Entry, Read, Verdict, Widened, records, weigh};
-use crate::sheet::{FILL, FILL_TERMS, Sheet};
+use crate::library::{Answer, Read, weigh};
+use crate::sheet::{FILL, FILL_TERMS, Sheet, Widened};
 
 impl Item for Widened {
     const GUARD: Widened = Widened { variable: usize::GUARD, up: u8::GUARD, behind: [u8::GUARD; 7] };
@@ -17,9 +17,9 @@ pub struct Call {
     pub outputs: [Lent<f64>; 4],
     pub terms: Lent<u32>,
     doubles: [Lent<f64>; 11],
-    counts: [Lent<usize>; 4],
-    flags: [Lent<u8>; 3],
-    records: Lent<Widened>,
+    counts: [Lent<usize>; 3],
+    flags: [Lent<u8>; 2],
+    widened: Lent<Widened>,
 }
 
 impl Call {
@@ -32,7 +32,7 @@ impl Call {
             doubles: sheet.doubles().map(|list| Lent::of(list, how)),
             counts: sheet.counts().map(|list| Lent::of(list, how)),
             flags: sheet.flags().map(|list| Lent::of(list, how)),
-            records: Lent::of(&records(sheet), how),
+            widened: Lent::of(&sheet.widened, how),
         }
     }
 
@@ -43,17 +43,17 @@ impl Call {
             && self.doubles.iter().zip(sheet.doubles()).all(|(lent, list)| lent.is_still(list))
             && self.counts.iter().zip(sheet.counts()).all(|(lent, list)| lent.is_still(list))
             && self.flags.iter().zip(sheet.flags()).all(|(lent, list)| lent.is_still(list))
-            && self.records.is_still(&records(sheet))
+            && self.widened.is_still(&sheet.widened)
     }
 
-    pub fn run(&mut self, sheet: &Sheet, entry: Entry) -> Verdict {
+    pub fn run(&mut self, sheet: &Sheet) -> Answer {
         let read = Read {
             doubles: self.doubles.each_ref().map(Lent::items),
             counts: self.counts.each_ref().map(Lent::items),
             flags: self.flags.each_ref().map(Lent::items),
-            records: self.records.items(),
+            widened: self.widened.items(),
         };
         // SAFETY: these places are the call's own
-        unsafe { weigh(sheet, &read, self.outputs.each_mut().map(Lent::to_write), self.terms.to_write(), entry) }
+        unsafe { weigh(sheet, &read, self.outputs.each_mut().map(Lent::to_write), self.terms.to_write()) }
     }
 }

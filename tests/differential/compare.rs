@@ -1,4 +1,4 @@
-//! Calls the functions under test on many sheets, and compares all that they answer and leave behind.
+//! Calls the function under test on many sheets, and compares all that they answer and leave behind.
 //!
 //! A sheet on which each of the Rust's products is the promised one (document 02, request 5) is compared with the
 //! unmodified Rust. Any other is left out of that, and compared with the same Rust whose products are the promised
@@ -7,11 +7,8 @@ use crate::call::Call;
 use crate::counts::Counts;
 use crate::expected::{Expected, Outward, expected, outward, pattern};
 use crate::lent::Lending;
-#[cfg(verdict)]
-use crate::library::sums;
-use crate::library::{Entry, Verdict};
+use crate::library::{Answer, sums};
 use crate::outward::rounds_rightly;
-#[cfg(verdict)]
 use crate::rust;
 use crate::sheet::Sheet;
 use crate::threads::in_parallel;
@@ -26,41 +23,33 @@ const REACHES_LOST: &str = "reaches lost";
 const EXACT: u64 = 17;
 
 /// The answer's numbers with their names.
-fn numbers(verdict: &Verdict) -> Vec<(&'static str, u64)> {
+fn numbers(&Answer { refusal, verdict }: &Answer) -> Vec<(&'static str, u64)> {
     vec![
-        ("refusal", verdict.refusal as u64),
-        ("holds", verdict.holds as u64),
-        ("gap", pattern(verdict.gap)),
-        ("allowance", pattern(verdict.allowance)),
-        ("cut", pattern(verdict.cut)),
-        ("zero within error", verdict.zero_within_error as u64),
-        ("zeroed", verdict.multipliers_zeroed as u64),
-        ("rows", verdict.rows as u64),
-        #[cfg(verdict)]
+        ("refusal", refusal as u64),
+        ("holds", verdict.proof.holds as u64),
+        ("gap", pattern(verdict.proof.gap)),
+        ("allowance", pattern(verdict.proof.allowance)),
+        ("cut", pattern(verdict.proof.cut)),
+        ("zero within error", verdict.proof.zero_within_error as u64),
+        ("zeroed", verdict.proof.multipliers_zeroed as u64),
+        ("rows", verdict.proof.rows as u64),
         ("outward", pattern(verdict.outward)),
-        #[cfg(verdict)]
         ("declined", verdict.declined as u64),
     ]
 }
 
-/// What differs on a sheet that is given to a function.
-fn differences(
-    sheet: &Sheet,
-    expected: &Expected,
-    outward: Option<&Outward>,
-    how: Lending,
-    entry: Entry,
-) -> Vec<String> {
+/// What differs on a sheet.
+fn differences(sheet: &Sheet, expected: &Expected, outward: Option<&Outward>, how: Lending) -> Vec<String> {
     const LISTS: [&str; 5] = ["high", "low", "magnitudes", "terms", "errors"];
     let mut call = Call::of(sheet, how);
-    let verdict = call.run(sheet, entry);
+    let answer = call.run(sheet);
     let mut right = expected.kept.to_vec();
     right.push(outward.map_or(0, |outward| pattern(outward.gap)));
     right.push(outward.is_some_and(|outward| outward.declined) as u64);
     let mut all = Vec::new();
-    for ((name, found), right) in numbers(&verdict).into_iter().zip(right) {
+    for ((name, found), right) in numbers(&answer).into_iter().zip(right) {
         if found != right {
-            all.push(format!("{}: {name} is {found:016X}, expected {right:016X}", entry.name()));
+            all.push(format!("{name} is {found:016X}, expected {right:016X}"));
         }
     }
     let doubles = |list: &[f64]| list.iter().map(|&x| pattern(x)).collect::<Vec<u64>>();
@@ -70,12 +59,12 @@ fn differences(
         for (place, (&found, &right)) in found.iter().zip(&expected.lists[list]).enumerate() {
             if found != right {
                 let name = LISTS[list];
-                all.push(format!("{}: {name} {place} is {found:016X}, expected {right:016X}", entry.name()));
+                all.push(format!("{name} {place} is {found:016X}, expected {right:016X}"));
             }
         }
     }
     if !call.is_clean(sheet) {
-        all.push(format!("{}: a place that may not be written to has changed", entry.name()));
+        all.push("a place that may not be written to has changed".to_string());
     }
     all
 }
@@ -84,9 +73,8 @@ fn differences(
 #[derive(Default)]
 struct Found {
     classes: Vec<u64>,
-    /// Of each class those left out, and those left out whose widened lists differ in length and are evened.
+    /// Of each class those left out.
     left: Vec<u64>,
-    left_evened: u64,
     /// Sheets left out on which `holds` of the unmodified Rust is another, by what it is there.
     turned: [u64; 2],
     counts: Counts,
@@ -102,18 +90,10 @@ impl Found {
     fn look(&mut self, number: u64, sheet: &Sheet, how: Lending) {
         // of the sheets compared with the unmodified Rust, and of those left out
         let (mut all, mut left) = (Vec::new(), Vec::new());
-        // records have one length, so they say of such a sheet only as much as the shorter list
-        if let Some(even) = sheet.evened() {
-            let expected = expected(&even);
-            let outward = expected.answer.as_ref().map(|answer| outward(&even, answer));
-            let found = self.call(&even, &expected, outward.as_ref(), how);
-            self.left_evened += expected.noted as u64;
-            (if expected.noted { &mut left } else { &mut all }).extend(found);
-        }
         let expected = expected(sheet);
         self.note(sheet, &expected);
         let outward = expected.answer.as_ref().map(|answer| outward(sheet, answer));
-        let found = self.call(sheet, &expected, outward.as_ref(), how);
+        let found = differences(sheet, &expected, outward.as_ref(), how);
         (if expected.noted { &mut left } else { &mut all }).extend(found);
         if let (Some(answer), Some(outward)) = (&expected.answer, &outward) {
             self.outward.note_outward(answer.holds, outward);
@@ -121,7 +101,6 @@ impl Found {
                 self.ask_exact(sheet, outward, &mut all);
             }
         }
-        #[cfg(verdict)]
         if number % EXACT == 0 {
             self.add_in_place(sheet, &mut all);
         }
@@ -148,16 +127,6 @@ impl Found {
         }
     }
 
-    /// What differs, in every function that takes the sheet.
-    fn call(&mut self, sheet: &Sheet, expected: &Expected, outward: Option<&Outward>, how: Lending) -> Vec<String> {
-        let mut all = Vec::new();
-        for entry in Entry::ALL.into_iter().filter(|entry| entry.takes(sheet)) {
-            self.calls.add(&format!("calls of {}", entry.name()), 1);
-            all.extend(differences(sheet, expected, outward, how, entry));
-        }
-        all
-    }
-
     /// Whether the reckoning in doubles is right, told by exact numbers.
     fn ask_exact(&mut self, sheet: &Sheet, outward: &Outward, all: &mut Vec<String>) {
         match outward.reckoning.claims(outward.gap) {
@@ -174,7 +143,6 @@ impl Found {
     }
 
     /// Whether the sums in place are the Rust's, on numbers of the sheet.
-    #[cfg(verdict)]
     fn add_in_place(&mut self, sheet: &Sheet, all: &mut Vec<String>) {
         let numbers: Vec<f64> = sheet.doubles().into_iter().flatten().copied().collect();
         for five in numbers.windows(5).take(20) {
@@ -192,7 +160,6 @@ impl Found {
             list.resize(list.len().max(more.len()), 0);
             list.iter_mut().zip(more).for_each(|(all, more)| *all += more);
         }
-        self.left_evened += other.left_evened;
         self.turned.iter_mut().zip(other.turned).for_each(|(all, more)| *all += more);
         self.refusals.iter_mut().zip(other.refusals).for_each(|(all, more)| *all += more);
         self.counts.add_all(&other.counts);
@@ -225,7 +192,6 @@ impl Found {
         for (class, count) in self.left.iter().enumerate() {
             println!("{count:>10} left out of class {class}, {}", classes[class]);
         }
-        println!("{:>10} left out with their widened lists evened", self.left_evened);
         let [to_yes, to_no] = self.turned;
         println!("{to_yes:>10} hold with the promised products and not in the unmodified Rust");
         println!("{to_no:>10} hold in the unmodified Rust and not with the promised products");
@@ -274,9 +240,11 @@ pub fn compare(
          are the promised ones, {} differ",
         found.left_differing
     );
-    let what =
-        if cfg!(verdict) { "verdicts compared with the Rust and the outward gap" } else { "compared with the Rust" };
-    println!("{} sheets, {what}, {} differ", sheets - left, found.differing);
+    println!(
+        "{} sheets, verdicts compared with the Rust and the outward gap, {} differ",
+        sheets - left,
+        found.differing
+    );
     let wrong = found.differing + found.left_differing != 0 || sheets == 0 || !amiss.is_empty();
     std::process::exit(wrong as i32);
 }

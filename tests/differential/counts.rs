@@ -60,7 +60,7 @@ impl Counts {
         add("leaving a structural variable", !slack);
         add("leaving slack of coefficient 0", slack && answer.high[answer.leaving] == 0.0);
         add("leaving up", sheet.leaving_up != 0);
-        add("widened sides", !sheet.widened_vars.is_empty());
+        add("widened sides", !sheet.widened.is_empty());
         add("no row kept", answer.rows == 0);
     }
 

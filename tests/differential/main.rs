@@ -1,6 +1,5 @@
 //! Compares the verdict over slices with the Rust that its kept numbers follow and with the outward gap that document 01
-//! says, on sheets made from a seed. Each sheet is put to `sheet_verdict` and to `verdict_of`, which are to agree. An archive
-//! without them is asked for the kept numbers alone.
+//! says, on sheets made from a seed.
 //!
 //! A sheet on which a product that the Rust's `mul_up` takes has other bits than the one that request 5 of document 02
 //! promises is left out of the comparison with the unmodified Rust. It is compared with the same Rust whose `mul_up`
@@ -14,12 +13,9 @@
 //!                           which tests/outward adds
 //!     --outward             reads such a list with its gaps, and compares each outward gap with the one reckoned here
 //!     --show N              prints sheet N of the seed, with its answer
-//!     --bench               times the function here and the kept reckoning in the unmodified Rust
 //!
 //! Every number of the answer, every place of the outputs and those round them, and every lent place are compared by bits, a
 //! NaN counted as one. The Rust asks no questions; which sheets are refused is worked out from document 01 (sheet.rs).
-#[cfg(not(alone))]
-mod bench;
 #[cfg(not(alone))]
 mod call;
 #[cfg(not(alone))]
@@ -52,12 +48,11 @@ struct Arguments {
     sheets: u64,
     fuzz: Option<u64>,
     apart: bool,
-    bench: bool,
 }
 
 fn main() {
     let mut arguments = std::env::args().skip(1);
-    let mut asked = Arguments { seed: 1, sheets: 1_000_000, fuzz: None, apart: false, bench: false };
+    let mut asked = Arguments { seed: 1, sheets: 1_000_000, fuzz: None, apart: false };
     let (mut stored, mut show, mut outward) = (None, None, false);
     while let Some(name) = arguments.next() {
         let mut number = || -> u64 {
@@ -70,13 +65,10 @@ fn main() {
             "--store" => stored = Some(number()),
             "--show" => show = Some(number()),
             "--apart" => asked.apart = true,
-            "--bench" => asked.bench = true,
             "--outward" => outward = true,
             _ => panic!("no argument {name}"),
         }
     }
-    // the timing is of the Rust as it is, in which no product is looked at
-    assert_eq!(cfg!(timed), asked.bench, "only --bench is built for the timing");
     if let Some(count) = stored {
         store::print(asked.seed, count as usize);
     } else if let Some(number) = show {
@@ -93,9 +85,7 @@ fn main() {
 fn run(asked: Arguments) {
     let how = if asked.apart { lent::Lending::Apart } else { lent::Lending::Guarded };
     let seed = asked.seed;
-    if asked.bench {
-        bench::run(seed);
-    } else if let Some(sheets) = asked.fuzz {
+    if let Some(sheets) = asked.fuzz {
         println!("seed {seed}, {sheets} damaged sheets");
         compare::compare(sheets, &shaken::CLASSES, 0, how, |number| shaken::sheet(&mut Rng::of(seed, number)));
     } else {
@@ -111,6 +101,6 @@ fn run(asked: Arguments) {
 
 #[cfg(alone)]
 fn run(asked: Arguments) {
-    let Arguments { seed: _, sheets: _, fuzz: _, apart: _, bench: _ } = asked;
+    let Arguments { seed: _, sheets: _, fuzz: _, apart: _ } = asked;
     panic!("built without the library: only --store, --outward and --show");
 }

@@ -2,7 +2,7 @@
 //! those reckoned here.
 use crate::expected::{outward, pattern};
 use crate::rust::answer;
-use crate::sheet::Sheet;
+use crate::sheet::{Sheet, Widened};
 
 fn numbers(line: &str) -> Vec<u64> {
     let number = |word| u64::from_str_radix(word, 16).expect("a number of 16 digits");
@@ -30,8 +30,7 @@ fn made(sizes: &[u64]) -> Sheet {
         basic: vec![0; count],
         places: vec![0; count],
         values: vec![0.0; count],
-        widened_vars: vec![0; widened],
-        widened_ups: vec![0; widened],
+        widened: vec![Widened::of(0, 0); widened],
         rho_hi: vec![0.0; rows],
         rho_lo: vec![0.0; rows],
         second: vec![0.0; rows],
@@ -44,8 +43,10 @@ fn made(sizes: &[u64]) -> Sheet {
 fn fill(sheet: &mut Sheet, line: &[u64]) {
     // as store.rs numbers them: the place of each among the doubles, the counts and the flags
     const DOUBLES: [usize; 11] = [2, 3, 4, 6, 7, 8, 9, 12, 15, 16, 17];
-    const COUNTS: [usize; 4] = [0, 1, 11, 13];
-    const FLAGS: [usize; 3] = [5, 10, 14];
+    const COUNTS: [usize; 3] = [0, 1, 11];
+    const FLAGS: [usize; 2] = [5, 10];
+    const VARIABLES: usize = 13;
+    const SIDES: usize = 14;
     let which = line[0] as usize;
     for (at, &x) in line[3..3 + line[2] as usize].iter().enumerate() {
         let place = line[1] as usize + at;
@@ -55,6 +56,10 @@ fn fill(sheet: &mut Sheet, line: &[u64]) {
             sheet.counts_to_change()[list][place] = x as usize;
         } else if let Some(list) = FLAGS.iter().position(|&slice| slice == which) {
             sheet.flags_to_change()[list][place] = x as u8;
+        } else if which == VARIABLES {
+            sheet.widened[place].variable = x as usize;
+        } else if which == SIDES {
+            sheet.widened[place].up = x as u8;
         } else {
             match place {
                 0 => sheet.feasibility = f64::from_bits(x),

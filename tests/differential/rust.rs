@@ -1,4 +1,4 @@
-//! The Rust that the kept functions follow, cut out of its documents (cut.py), over a solver with the fields that it
+//! The Rust that the kept functions follow, cut out of its documents (tests/cut.py), over a solver with the fields that it
 //! reads. It runs a sheet that no question refuses.
 //!
 //! By hand, since the three documents do not have them: the fields' struct, the domains, the sparse rows, and the three
@@ -15,7 +15,8 @@ macro_rules! debug {
     ($($word:tt)*) => {};
 }
 
-include!(concat!(env!("CUT"), "/cut.rs"));
+include!(concat!(env!("CUT"), "/sums.rs"));
+include!(concat!(env!("CUT"), "/judgement.rs"));
 
 #[cfg(timed)]
 include!(concat!(env!("CUT"), "/mul_up.rs"));
@@ -164,9 +165,7 @@ impl Solver {
             basic_var_vals: vec![0.0; sheet.rows],
             nb_var_vals: Vec::new(),
             // the bound in the model is not read here
-            widened: (sheet.widened_vars.iter().zip(&sheet.widened_ups))
-                .map(|(&var, &up)| WidenedBound { var, up: up != 0, model: f64::NAN })
-                .collect(),
+            widened: sheet.sides().into_iter().map(|(var, up)| WidenedBound { var, up, model: f64::NAN }).collect(),
         };
         for var in 0..count {
             if sheet.basic[var] != 0 {

@@ -1,6 +1,6 @@
 //! Sheets as nobody would lend them: slices of any length, any bits, sizes near 2^64. No two slices share memory.
 use crate::generate::{self, Rng};
-use crate::sheet::Sheet;
+use crate::sheet::{Sheet, Widened};
 
 pub const CLASSES: [&str; 5] = [
     "a sound sheet with places changed",
@@ -40,8 +40,14 @@ fn change(rng: &mut Rng, sheet: &mut Sheet) {
         5 => sheet.structurals = count,
         6 => sheet.entry_count = count,
         at @ 7..18 => put(rng, sheet.doubles_to_change()[at - 7], double),
-        at @ 18..22 => put(rng, sheet.counts_to_change()[at - 18], count),
-        at => put(rng, sheet.flags_to_change()[at - 22], flag),
+        at @ 18..21 => put(rng, sheet.counts_to_change()[at - 18], count),
+        at @ 21..23 => put(rng, sheet.flags_to_change()[at - 21], flag),
+        _ if sheet.widened.is_empty() => {}
+        at => {
+            let place = rng.below(sheet.widened.len());
+            let item = &mut sheet.widened[place];
+            if at == 23 { item.variable = count } else { item.up = flag }
+        }
     }
 }
 
@@ -69,9 +75,11 @@ fn any_contents(rng: &mut Rng, sheet: &mut Sheet) {
     for list in sheet.counts_to_change() {
         list.fill_with(|| any_count(rng));
     }
+    let any_flag = |rng: &mut Rng| rng.next() as u8 & rng.pick(&[0xFF, 1, 0]);
     for list in sheet.flags_to_change() {
-        list.fill_with(|| rng.next() as u8 & rng.pick(&[0xFF, 1, 0]));
+        list.fill_with(|| any_flag(rng));
     }
+    sheet.widened.fill_with(|| Widened::of(any_count(rng), any_flag(rng)));
     (sheet.feasibility, sheet.leaving_row) = (any_double(rng), any_count(rng));
     (sheet.checked, sheet.leaving_up) = (rng.next() as u8, rng.next() as u8);
 }
@@ -81,6 +89,7 @@ fn any_lengths(rng: &mut Rng, sheet: &mut Sheet) {
     sheet.doubles_to_change().into_iter().for_each(|list| list.resize(length(), 0.0));
     sheet.counts_to_change().into_iter().for_each(|list| list.resize(length(), 0));
     sheet.flags_to_change().into_iter().for_each(|list| list.resize(length(), 0));
+    sheet.widened.resize(length(), Widened::of(0, 0));
     sheet.outputs = [(); 5].map(|()| length());
 }
 

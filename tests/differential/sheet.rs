@@ -3,6 +3,28 @@
 pub const FILL: u64 = 0x5A5A_5A5A_5A5A_5A5A;
 pub const FILL_TERMS: u32 = 0x5A5A_5A5A;
 
+/// An item of the widened list, laid out as `sheet_verdict` takes it. The bytes behind the flag have a name here, so that they
+/// can be set and looked at; no answer may depend on them.
+#[repr(C)]
+#[derive(Clone, Copy, Default)]
+pub struct Widened {
+    pub variable: usize,
+    pub up: u8,
+    pub behind: [u8; 7],
+}
+
+impl Widened {
+    pub fn of(variable: usize, up: u8) -> Self {
+        // not 0 behind a flag that is
+        Widened { variable, up, behind: [!up; 7] }
+    }
+
+    /// What it says.
+    pub fn side(&self) -> (usize, bool) {
+        (self.variable, self.up != 0)
+    }
+}
+
 #[derive(Clone, Default)]
 pub struct Sheet {
     pub class: usize,
@@ -29,8 +51,7 @@ pub struct Sheet {
     pub basic: Vec<u8>,
     pub places: Vec<usize>,
     pub values: Vec<f64>,
-    pub widened_vars: Vec<usize>,
-    pub widened_ups: Vec<u8>,
+    pub widened: Vec<Widened>,
     pub rho_hi: Vec<f64>,
     pub rho_lo: Vec<f64>,
     pub second: Vec<f64>,
@@ -49,15 +70,9 @@ impl Sheet {
         self.starts[r]..self.starts[r + 1]
     }
 
-    /// Where the two widened lists differ in length, the sheet with the longer one cut to the shorter.
-    pub fn evened(&self) -> Option<Sheet> {
-        let (vars, ups) = (self.widened_vars.len(), self.widened_ups.len());
-        (vars != ups).then(|| {
-            let mut sheet = self.clone();
-            sheet.widened_vars.truncate(ups);
-            sheet.widened_ups.truncate(vars);
-            sheet
-        })
+    /// The sides that the widened list holds.
+    pub fn sides(&self) -> Vec<(usize, bool)> {
+        self.widened.iter().map(Widened::side).collect()
     }
 
     /// The lent slices of doubles, of counts and of flags, in the order in which a call lends them.
@@ -77,12 +92,12 @@ impl Sheet {
         ]
     }
 
-    pub fn counts(&self) -> [&Vec<usize>; 4] {
-        [&self.starts, &self.columns, &self.places, &self.widened_vars]
+    pub fn counts(&self) -> [&Vec<usize>; 3] {
+        [&self.starts, &self.columns, &self.places]
     }
 
-    pub fn flags(&self) -> [&Vec<u8>; 3] {
-        [&self.integer, &self.basic, &self.widened_ups]
+    pub fn flags(&self) -> [&Vec<u8>; 2] {
+        [&self.integer, &self.basic]
     }
 
     pub fn doubles_to_change(&mut self) -> [&mut Vec<f64>; 11] {
@@ -101,12 +116,12 @@ impl Sheet {
         ]
     }
 
-    pub fn counts_to_change(&mut self) -> [&mut Vec<usize>; 4] {
-        [&mut self.starts, &mut self.columns, &mut self.places, &mut self.widened_vars]
+    pub fn counts_to_change(&mut self) -> [&mut Vec<usize>; 3] {
+        [&mut self.starts, &mut self.columns, &mut self.places]
     }
 
-    pub fn flags_to_change(&mut self) -> [&mut Vec<u8>; 3] {
-        [&mut self.integer, &mut self.basic, &mut self.widened_ups]
+    pub fn flags_to_change(&mut self) -> [&mut Vec<u8>; 2] {
+        [&mut self.integer, &mut self.basic]
     }
 
     /// The number of the first question that refuses the sheet, 0 if none does.
@@ -145,7 +160,6 @@ impl Sheet {
                 .all(|slice| slice.len() == count)
             && self.basic.len() == count
             && self.places.len() == count
-            && self.widened_ups.len() == self.widened_vars.len()
             && self.outputs.iter().all(|&length| length >= count)
     }
 
@@ -196,8 +210,7 @@ impl Sheet {
 
     fn widened(&self) -> bool {
         let count = self.structurals + self.rows;
-        let mut items: Vec<(usize, bool)> =
-            self.widened_vars.iter().zip(&self.widened_ups).map(|(&var, &up)| (var, up != 0)).collect();
+        let mut items = self.sides();
         items.sort();
         items.iter().all(|item| item.0 < count) && items.windows(2).all(|pair| pair[0] != pair[1])
     }

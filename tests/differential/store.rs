@@ -8,10 +8,10 @@
 //!
 //! Of a sheet on which a product of the Rust differs from the one that request 5 of document 02 promises, `noted` is
 //! 1, else 0: such a sheet's answer is the Rust's but for its products, which are the promised ones.
-use crate::generate::{sheet, Rng, CLASSES};
+use crate::expected::{Expected, expected, pattern, unmodified};
+use crate::generate::{CLASSES, Rng, sheet};
 use crate::rust::Walk;
 use crate::sheet::Sheet;
-use crate::expected::{expected, pattern, unmodified, Expected};
 
 fn line(out: &mut String, letter: char, numbers: &[u64]) {
     out.push(letter);
@@ -42,7 +42,7 @@ pub fn lines(sheet: &Sheet, expected: &Expected) -> String {
     let mut out = String::new();
     let count = sheet.made_rows + sheet.made_structurals;
     let entries = sheet.entries.len();
-    let sizes = [sheet.made_rows, sheet.made_structurals, entries, sheet.widened_vars.len()];
+    let sizes = [sheet.made_rows, sheet.made_structurals, entries, sheet.widened.len()];
     let mut first = counts(&sizes);
     first.extend([sheet.outputs[0].saturating_sub(count) as u64, sheet.class as u64, expected.noted as u64]);
     line(&mut out, 'S', &first);
@@ -60,8 +60,8 @@ pub fn lines(sheet: &Sheet, expected: &Expected) -> String {
         flags(&sheet.basic),
         counts(&sheet.places),
         doubles(&sheet.values),
-        counts(&sheet.widened_vars),
-        flags(&sheet.widened_ups),
+        sheet.widened.iter().map(|item| item.variable as u64).collect(),
+        sheet.widened.iter().map(|item| item.up as u64).collect(),
         doubles(&sheet.rho_hi),
         doubles(&sheet.rho_lo),
         doubles(&sheet.second),
@@ -122,10 +122,10 @@ fn strip(rng: &mut Rng, sheet: Sheet) -> Sheet {
         |s| s.values.fill(0.0),
         |s| {
             if s.class != 10 {
-                (s.widened_vars, s.widened_ups) = (Vec::new(), Vec::new());
+                s.widened.clear();
             }
         },
-        |s| s.widened_ups.fill(0),
+        |s| s.widened.iter_mut().for_each(|item| item.up = 0),
         |s| s.mins.fill(0.0),
         |s| s.maxs.fill(0.0),
         |s| s.feasibility = 0.0,
@@ -160,7 +160,7 @@ fn wanted(sheet: &Sheet, expected: &Expected, round: usize) -> bool {
         },
         6 if round % 2 == 0 => !answer.gap.is_finite() || answer.low.iter().any(|low| !low.is_finite()),
         7 => sheet.rho_hi.iter().chain(&sheet.rho_lo).any(|x| !x.is_finite()) == (round % 3 != 0),
-        10 => !sheet.widened_vars.is_empty() && (answer.holds || round % 2 == 0),
+        10 => !sheet.widened.is_empty() && (answer.holds || round % 2 == 0),
         11 if round % 6 == 0 => !answer.gap.is_finite(),
         // by less than what the leaving slack's room was cut by
         11 if round % 6 == 1 => answer.holds && answer.gap < answer.allowance + answer.cut,

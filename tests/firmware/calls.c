@@ -15,11 +15,10 @@ static uint32_t terms[USHNAZAR_MOST_VARIABLES];
 uint8_t answer[USHNAZAR_MOST_ANSWER];
 
 __typeof__(&sheet_verdict) volatile sheet_function = sheet_verdict;
-__typeof__(&verdict_of) volatile lists_function = verdict_of;
 __typeof__(&weigh_text) volatile text_function = weigh_text;
 __typeof__(&cdouble_add) volatile add_function = cdouble_add;
 __typeof__(&cdouble_add_scaled) volatile scaled_function = cdouble_add_scaled;
-struct ushnazar_verdict verdict;
+struct ushnazar_answer weighed;
 struct ushnazar_cdouble sum, factor;
 double term;
 size_t answer_length;
@@ -29,7 +28,7 @@ void call_sheet(void)
     const struct sheet *s = &sheet;
     size_t n = s->structurals + s->rows;
     size_t most = USHNAZAR_MOST_VARIABLES;
-    verdict = sheet_function(
+    weighed = sheet_function(
         s->widened, s->widened_count,
         s->rows, s->structurals, s->entry_count, s->feasibility, s->checked, s->leaving_row, s->leaving_up,
         high, most, low, most, magnitudes, most, terms, most, errors, most,
@@ -37,22 +36,6 @@ void call_sheet(void)
         s->right_sides, s->rows, s->scales, s->rows, s->integer, s->structurals,
         s->mins, n, s->maxs, n, s->low_tolerances, n, s->high_tolerances, n,
         s->basic, n, s->places, n, s->values, n,
-        s->rho_hi, s->rows, s->rho_lo, s->rows, s->second, s->rows);
-}
-
-void call_lists(void)
-{
-    const struct sheet *s = &sheet;
-    size_t n = s->structurals + s->rows;
-    size_t most = USHNAZAR_MOST_VARIABLES;
-    verdict = lists_function(
-        s->rows, s->structurals, s->entry_count, s->feasibility, s->checked, s->leaving_row, s->leaving_up,
-        high, most, low, most, magnitudes, most, terms, most, errors, most,
-        s->starts, s->rows + 1, s->columns, s->entry_count, s->entries, s->entry_count,
-        s->right_sides, s->rows, s->scales, s->rows, s->integer, s->structurals,
-        s->mins, n, s->maxs, n, s->low_tolerances, n, s->high_tolerances, n,
-        s->basic, n, s->places, n, s->values, n,
-        s->widened_vars, s->widened_count, s->widened_ups, s->widened_count,
         s->rho_hi, s->rows, s->rho_lo, s->rows, s->second, s->rows);
 }
 

@@ -12,18 +12,16 @@ extern char text[2 * USHNAZAR_MOST_TEXT];
 extern size_t text_length;
 
 /* What the last call answered. */
-extern struct ushnazar_verdict verdict;
+extern struct ushnazar_answer weighed;
 extern uint8_t answer[USHNAZAR_MOST_ANSWER];
 extern size_t answer_length;
 
 /* The functions are called through pointers, so that another can be put in their place. */
 extern __typeof__(&sheet_verdict) volatile sheet_function;
-extern __typeof__(&verdict_of) volatile lists_function;
 extern __typeof__(&weigh_text) volatile text_function;
 extern __typeof__(&cdouble_add) volatile add_function;
 extern __typeof__(&cdouble_add_scaled) volatile scaled_function;
 void call_sheet(void);
-void call_lists(void);
 void call_text(void);
 void call_add(void);
 void call_scaled(void);

@@ -3,7 +3,6 @@
  *
  *     firmware stack            how deep each function gets, in bytes
  *     firmware slices           one call of sheet_verdict for each accepted sheet, its words printed after it
- *     firmware lists            the same with verdict_of
  *     firmware texts            the accepted sheets as texts, each after a line of its length and words
  *     firmware weigh < TEXTS    one call of weigh_text for each of these, its line printed after it
  *     firmware add              one call of cdouble_add for each sheet's numbers, the words printed after it
@@ -24,7 +23,7 @@ static void (*call)(void);
 static void count_verdict(const char *words)
 {
     call();
-    must(verdict.refusal == 0, words);
+    must(weighed.refusal == 0, words);
     printf("%zu entries, %s\n", sheet.entry_count, words);
 }
 
@@ -80,7 +79,6 @@ static void measure_time(const char *name, void (*each)(void (*)(const char *)),
 static void measure_times(void)
 {
     measure_time("sheet_verdict", each_sheet, call_sheet);
-    measure_time("verdict_of", each_sheet, call_lists);
     measure_time("weigh_text", each_text, call_text);
     measure_time("cdouble_add", each_sum, call_add);
     measure_time("cdouble_add_scaled", each_sum, call_scaled);
@@ -99,20 +97,20 @@ static size_t verdicts, changed[STATES];
 
 static void count_changes(const char *words)
 {
-    struct ushnazar_verdict usual;
+    struct ushnazar_answer usual;
     (void)words;
     call_sheet();
-    usual = verdict;
+    usual = weighed;
     verdicts++;
     for (int k = 0; k < STATES; k++) {
         _mm_setcsr(states[k].bits);
         call_sheet();
         _mm_setcsr(states[0].bits);
-        changed[k] += memcmp(&usual.gap, &verdict.gap, sizeof(double)) != 0
-            || memcmp(&usual.allowance, &verdict.allowance, sizeof(double)) != 0
-            || memcmp(&usual.cut, &verdict.cut, sizeof(double)) != 0
-            || memcmp(&usual.outward, &verdict.outward, sizeof(double)) != 0
-            || usual.refusal != verdict.refusal || usual.declined != verdict.declined;
+        changed[k] += memcmp(&usual.verdict.proof.gap, &weighed.verdict.proof.gap, sizeof(double)) != 0
+            || memcmp(&usual.verdict.proof.allowance, &weighed.verdict.proof.allowance, sizeof(double)) != 0
+            || memcmp(&usual.verdict.proof.cut, &weighed.verdict.proof.cut, sizeof(double)) != 0
+            || memcmp(&usual.verdict.outward, &weighed.verdict.outward, sizeof(double)) != 0
+            || usual.refusal != weighed.refusal || usual.verdict.declined != weighed.verdict.declined;
     }
 }
 
@@ -134,8 +132,8 @@ int main(int argc, char **argv)
     const char *what = argc == 2 ? argv[1] : "";
     if (is(what, "stack")) {
         measure_stack();
-    } else if (is(what, "slices") || is(what, "lists")) {
-        call = is(what, "slices") ? call_sheet : call_lists;
+    } else if (is(what, "slices")) {
+        call = call_sheet;
         each_sheet(count_verdict);
     } else if (is(what, "add") || is(what, "scaled")) {
         call = is(what, "add") ? call_add : call_scaled;
@@ -149,7 +147,7 @@ int main(int argc, char **argv)
     } else if (is(what, "states")) {
         measure_states();
     } else {
-        fprintf(stderr, "firmware: stack, slices, lists, texts, weigh, add, scaled, time or states\n");
+        fprintf(stderr, "firmware: stack, slices, texts, weigh, add, scaled, time or states\n");
         return 1;
     }
     return 0;

@@ -118,9 +118,7 @@ static void widen(struct sheet *s, size_t v, uint8_t up)
     /* what stands behind a record's flag is not 0 */
     memset(&s->widened[s->widened_count], 0xA5, sizeof s->widened[0]);
     s->widened[s->widened_count].variable = v;
-    s->widened[s->widened_count].up = up;
-    s->widened_vars[s->widened_count] = v;
-    s->widened_ups[s->widened_count++] = up;
+    s->widened[s->widened_count++].up = up;
 }
 
 /* Whether the judgement looks for the upper side of each variable: where its coefficient is above 0. */
@@ -137,8 +135,8 @@ static void find_sides(const struct sheet *s, uint8_t *ups)
     }
 }
 
-/* verdict_of searches the list from its front, for each variable and side; by side means that the sides looked for most
-   often come last. */
+/* Both sides of each variable, from the first to the last or from the last to the first; by side means that the sides that
+   the judgement looks for come last. */
 static void make_widened(struct sheet *s, enum widened widened)
 {
     uint8_t ups[VARIABLES_HELD];
@@ -198,7 +196,7 @@ void spoil_sheet(struct sheet *s, enum ushnazar_refusal question)
         if (s->widened_count == 0) {
             widen(s, 0, 0);
         }
-        widen(s, s->widened_vars[0], s->widened_ups[0]);
+        widen(s, s->widened[0].variable, s->widened[0].up);
         break;
     case USHNAZAR_LEAVING_ROW: s->leaving_row = s->rows; break;
     default: break;
@@ -269,7 +267,7 @@ size_t write_sheet(const struct sheet *s, char *text, size_t room)
         put_row(&w, s, r);
     }
     for (size_t k = 0; k < s->widened_count; k++) {
-        put(&w, "(widened %zu %s)\n", s->widened_vars[k], s->widened_ups[k] ? "up" : "down");
+        put(&w, "(widened %zu %s)\n", s->widened[k].variable, s->widened[k].up ? "up" : "down");
     }
     put(&w, "(multipliers %s)\n", s->checked ? "checked" : "unchecked");
     for (size_t r = 0; r < s->rows; r++) {

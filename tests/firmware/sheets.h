@@ -19,10 +19,7 @@ struct sheet {
     double mins[VARIABLES_HELD], maxs[VARIABLES_HELD], values[VARIABLES_HELD];
     double low_tolerances[VARIABLES_HELD], high_tolerances[VARIABLES_HELD];
     uint8_t integer[VARIABLES_HELD], basic[VARIABLES_HELD];
-    /* the widened list as records and as two lists */
     struct ushnazar_widened widened[USHNAZAR_MOST_WIDENED + 1];
-    size_t widened_vars[USHNAZAR_MOST_WIDENED + 1];
-    uint8_t widened_ups[USHNAZAR_MOST_WIDENED + 1];
     double rho_hi[ROWS_HELD], rho_lo[ROWS_HELD], second[ROWS_HELD];
 };
 

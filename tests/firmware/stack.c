@@ -61,13 +61,11 @@ static void note(size_t *most, size_t depth)
 static void find_frame_end(void (*call)(void))
 {
     sheet_function = (__typeof__(&sheet_verdict))probe;
-    lists_function = (__typeof__(&verdict_of))probe;
     text_function = (__typeof__(&weigh_text))probe;
     add_function = (__typeof__(&cdouble_add))probe;
     scaled_function = (__typeof__(&cdouble_add_scaled))probe;
     on_own_stack(call);
     sheet_function = sheet_verdict;
-    lists_function = verdict_of;
     text_function = weigh_text;
     add_function = cdouble_add;
     scaled_function = cdouble_add_scaled;
@@ -81,13 +79,13 @@ static void paint_verdict(const char *words)
 {
     static struct sheet sound;
     note(&deepest, depth_of(call));
-    must(verdict.refusal == 0, words);
+    must(weighed.refusal == 0, words);
     sound = sheet;
     for (int question = USHNAZAR_SIZES; question <= USHNAZAR_LEAVING_ROW; question++) {
         if (question != USHNAZAR_LENGTHS) {
             spoil_sheet(&sheet, question);
             note(&deepest_refused, depth_of(call));
-            must(verdict.refusal == (uint32_t)question, "another refusal than was meant");
+            must(weighed.refusal == (uint32_t)question, "another refusal than was meant");
             sheet = sound;
         }
     }
@@ -161,9 +159,6 @@ void measure_stack(void)
     begin(call_sheet);
     each_sheet(paint_verdict);
     end("sheet_verdict");
-    begin(call_lists);
-    each_sheet(paint_verdict);
-    end("verdict_of");
     begin(call_text);
     each_text(paint_text);
     paint_longest_text();

@@ -1,5 +1,5 @@
 #!/usr/bin/env python3
-"""Writes the table of sheets that the program refusals puts to the questions of the crate sheet.
+"""Writes the table of sheets that the program refusals puts to sheet_verdict.
 
     generate.py              write the table to standard output
     generate.py --check F    exit 1 where the file F is not that table
@@ -14,7 +14,8 @@ get. A line is a letter and four numbers, each as 16 hexadecimal digits. Numbers
 
 Slices are counted from 0 as SLICES has them. The last is not handed over: its places are NUMBERS, the lengths of the
 others and of the outputs, the sizes, feasibility (a pattern), checked, the leaving row and leaving_up. To put a value
-there changes nothing else, so that lengths and sizes may be wrong. A slice is cut to its length, at most its ROOM.
+there changes nothing else, so that lengths and sizes may be wrong. A slice is cut to its length, at most its ROOM. The
+widened list is lent as records, so its two slices have one length: that of the sides is put after that of the variables.
 
 Each case is written down here with the number that it is to get, and the questions of document 01 are put to its sheet
 as well. No table is written where the two differ.
@@ -38,6 +39,9 @@ OUTPUTS = ('out high', 'out low', 'out magnitudes', 'out terms', 'out errors')
 SIZES = ('row count', 'structural count', 'entry count')
 NUMBERS = LENT + OUTPUTS + SIZES + ('feasibility', 'checked', 'leaving row', 'leaving up')
 SLICES = LENT + ('numbers',)
+
+# the slices that are the widened list, which may have any length
+WIDENED = ('widened variables', 'widened sides')
 
 # the slices that have a place for each row, and for each variable
 MULTIPLIERS = ('rho hi', 'rho lo', 'second')
@@ -128,6 +132,8 @@ def lent(shape, changes):
     for name, place, value in changes:
         slices[name][place] = value
     numbers = dict(zip(NUMBERS, slices['numbers']))
+    if len({numbers[name] for name in WIDENED}) != 1:
+        sys.exit(f'{shape} {changes}: widened lists of unlike length')
     return {name: slices[name][:numbers[name]] for name in LENT}, numbers
 
 
@@ -148,9 +154,8 @@ def q2(s, n):
 def q3(s, n):
     rows, structurals, entries = (n[name] for name in SIZES)
     need = {**dict.fromkeys(OF_ROW, rows), **dict.fromkeys(OF_VARIABLE, structurals + rows), 'starts': rows + 1,
-            'columns': entries, 'entries': entries, 'integer': structurals,
-            'widened variables': len(s['widened variables']), 'widened sides': len(s['widened variables'])}
-    return all(len(s[name]) == need[name] for name in LENT) and all(n[name] >= structurals + rows for name in OUTPUTS)
+            'columns': entries, 'entries': entries, 'integer': structurals}
+    return all(len(s[name]) == need[name] for name in need) and all(n[name] >= structurals + rows for name in OUTPUTS)
 
 
 def q4(s, n):
@@ -258,6 +263,8 @@ def fail2(shape):
 def fail3(shape):
     number = dict(zip(NUMBERS, sound_numbers(shape)))
     for name in LENT + OUTPUTS:
+        if name in WIDENED:
+            continue
         length = number[name]
         yield [N(name, length - 1)]
         if name in LENT:

@@ -86,10 +86,10 @@ impl Draft {
         for r in 0..sheet.rows {
             draft.row(sheet, r);
         }
-        for (&var, &up) in sheet.widened_vars.iter().zip(&sheet.widened_ups) {
+        for (variable, up) in sheet.sides() {
             draft.words("(widened ");
-            draft.count(var);
-            draft.words(if up != 0 { " up)\n" } else { " down)\n" });
+            draft.count(variable);
+            draft.words(if up { " up)\n" } else { " down)\n" });
         }
         let checked = sheet.checked != 0;
         draft.words(if checked { "(multipliers checked)\n" } else { "(multipliers unchecked)\n" });

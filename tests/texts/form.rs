@@ -1,6 +1,6 @@
 //! Question 1: whether a text has the form of a sheet, and what it says. Written from document 01, "The sheet", byte by
 //! byte from the front.
-use crate::sheet::Sheet;
+use crate::sheet::{Sheet, Widened};
 
 pub const MOST_BYTES: usize = 65_536;
 
@@ -127,9 +127,9 @@ impl Reader<'_> {
             self.row(&mut sheet)?;
         }
         while self.stands("(widened ") {
-            sheet.widened_vars.push(self.count()?);
+            let variable = self.count()?;
             self.word(" ")?;
-            sheet.widened_ups.push(self.either("up", "down")?);
+            sheet.widened.push(Widened::of(variable, self.either("up", "down")?));
             self.word(")\n")?;
         }
         self.word("(multipliers ")?;

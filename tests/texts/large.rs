@@ -2,7 +2,7 @@
 use crate::draft::Draft;
 use crate::form::MOST_BYTES;
 use crate::generate::{Rng, of_size};
-use crate::sheet::Sheet;
+use crate::sheet::{Sheet, Widened};
 
 #[derive(Clone, Copy)]
 pub enum Large {
@@ -82,8 +82,7 @@ fn plain(rng: &mut Rng, [rows, structurals, entries, widened]: [usize; 4]) -> Ve
         rho_hi: vec![0.0; rows],
         rho_lo: vec![0.0; rows],
         second: vec![0.0; rows],
-        widened_vars: (0..widened).map(|at| at / 2 % count.max(1)).collect(),
-        widened_ups: (0..widened).map(|at| (at % 2) as u8).collect(),
+        widened: (0..widened).map(|at| Widened::of(at / 2 % count.max(1), (at % 2) as u8)).collect(),
         ..Sheet::default()
     };
     for r in 0..rows {

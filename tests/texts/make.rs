@@ -44,6 +44,7 @@ fn says(text: &[u8], sheet: &Sheet) -> bool {
         && bits(&read) == bits(&sheet)
         && read.counts() == sheet.counts()
         && read.flags().map(|list| flag(list)) == sheet.flags().map(|list| flag(list))
+        && read.sides() == sheet.sides()
 }
 
 fn sound(rng: &mut Rng) -> Vec<u8> {

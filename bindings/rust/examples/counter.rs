@@ -2,7 +2,8 @@
 //!
 //!     cargo run --example counter
 use ushnazar::{
-    weigh, Certificate, Direction, Domain, Multipliers, Pair, Refusal, Sheet, SheetBuilder, State, Variable, Verdict,
+    weigh, Certificate, Direction, Domain, Multipliers, Pair, Proof, Refusal, Sheet, SheetBuilder, State, Variable,
+    Verdict,
 };
 
 /// The oven runs for an hour; a tray of loaves takes 1 minute of it and a cake 4.
@@ -33,7 +34,7 @@ fn book(cakes_on_order: f64) -> Sheet {
 }
 
 fn in_words(verdict: &Verdict<Certificate>) -> String {
-    let Verdict { holds, gap, outward, rows, .. } = verdict;
+    let Verdict { proof: Proof { holds, gap, rows, .. }, outward, .. } = verdict;
     match (verdict.declined, holds) {
         (true, _) => format!("declined: {rows} rows together show that the oven is {outward:.1} minutes short"),
         (false, true) => format!("not declined: it held, but with every step rounded outward the gap is {outward}"),

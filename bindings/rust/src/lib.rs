@@ -37,11 +37,11 @@ pub use cdouble::CDouble;
 pub use refusal::Refusal;
 #[cfg(feature = "alloc")]
 pub use sheet::{weigh, Sheet};
-pub use slices::{weigh_into, weigh_two_lists_into, Buffers, Lists, Slices, Widened};
+pub use slices::{weigh_into, Buffers, Lists, Slices, Widened};
 pub use text::{weigh_text, Answer};
 #[cfg(feature = "alloc")]
 pub use verdict::Certificate;
-pub use verdict::{CertificateRef, Verdict};
+pub use verdict::{CertificateRef, Proof, Verdict};
 
 /// The most rows of a sheet.
 pub const MOST_ROWS: usize = 128;

@@ -1,5 +1,5 @@
 //! A sheet in the caller's slices, weighed into the caller's buffers.
-use crate::raw::{call_sheet_verdict, call_verdict_of, RawVerdict};
+use crate::raw::call_sheet_verdict;
 use crate::refusal::Refusal;
 use crate::verdict::{CertificateRef, Verdict};
 use crate::MOST_VARIABLES;
@@ -133,43 +133,19 @@ const NOT_WRITTEN: f64 = -1.0;
 /// # Errors
 ///
 /// The first question whose answer is no; every place of the lists is then as it was.
-pub fn weigh_into<'a>(sheet: &Slices<'_>, lists: Lists<'a>) -> Result<Verdict<CertificateRef<'a>>, Refusal> {
-    weighed(sheet, lists, |lists| call_sheet_verdict(sheet, lists))
-}
-
-/// The same for a caller who holds the widened list as two lists, the variables and their flags. They stand in for
-/// `sheet.widened`, which is not read; the answer is that to the same items as records. Allocates nothing.
-///
-/// # Errors
-///
-/// The first question whose answer is no, [`Refusal::Lengths`] also where one of the two lists is longer; every place of
-/// the lists is then as it was.
-pub fn weigh_two_lists_into<'a>(
-    sheet: &Slices<'_>,
-    widened_vars: &[usize],
-    widened_ups: &[u8],
-    lists: Lists<'a>,
-) -> Result<Verdict<CertificateRef<'a>>, Refusal> {
-    weighed(sheet, lists, |lists| call_verdict_of(sheet, widened_vars, widened_ups, lists))
-}
-
-fn weighed<'a>(
-    sheet: &Slices<'_>,
-    mut lists: Lists<'a>,
-    call: impl FnOnce(&mut Lists<'a>) -> RawVerdict,
-) -> Result<Verdict<CertificateRef<'a>>, Refusal> {
+pub fn weigh_into<'a>(sheet: &Slices<'_>, mut lists: Lists<'a>) -> Result<Verdict<CertificateRef<'a>>, Refusal> {
     // the archive does not say whether it wrote errors: it writes them for all variables or for none, so the first tells
     let first_error = lists.errors.first().copied();
     if let Some(first) = lists.errors.first_mut() {
         *first = NOT_WRITTEN;
     }
-    let raw = call(&mut lists);
+    let answer = call_sheet_verdict(sheet, &mut lists);
     let written = lists.errors.first().is_some_and(|first| *first != NOT_WRITTEN);
     if let (Some(first), Some(before), false) = (lists.errors.first_mut(), first_error, written) {
         *first = before;
     }
-    if raw.refusal != 0 {
-        return Err(refusal_of(raw.refusal));
+    if answer.refusal != 0 {
+        return Err(refusal_of(answer.refusal));
     }
     let count = sheet.structurals + sheet.rows;
     let Lists { high, low, magnitudes, terms, errors } = lists;
@@ -180,7 +156,7 @@ fn weighed<'a>(
         terms: &terms[..count],
         errors: written.then_some(&errors[..count]),
     };
-    Ok(Verdict::new(raw, certificate))
+    Ok(Verdict::new(answer.verdict, certificate))
 }
 
 /// The refusal that the archive's number stands for.

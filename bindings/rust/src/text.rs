@@ -1,5 +1,5 @@
 //! A sheet in text, weighed to an answer in text.
-use crate::raw::{call_weigh_text, RawVerdict};
+use crate::raw::{call_weigh_text, RawProof, RawVerdict};
 use crate::refusal::Refusal;
 use crate::slices::refusal_of;
 use crate::verdict::Verdict;
@@ -38,14 +38,15 @@ impl Answer {
             return Err(refusal_of(number.trim_end().trim_end_matches(')').parse().unwrap_or(0)));
         }
         let read = RawVerdict {
-            refusal: 0,
-            holds: flag(item(lines.next(), "holds")),
-            gap: double(item(lines.next(), "gap")),
-            allowance: double(item(lines.next(), "allowance")),
-            cut: double(item(lines.next(), "cut")),
-            zero_within_error: count(item(lines.next(), "zero-within-error")),
-            multipliers_zeroed: count(item(lines.next(), "multipliers-zeroed")),
-            rows: count(item(lines.next(), "rows")),
+            proof: RawProof {
+                holds: flag(item(lines.next(), "holds")),
+                gap: double(item(lines.next(), "gap")),
+                allowance: double(item(lines.next(), "allowance")),
+                cut: double(item(lines.next(), "cut")),
+                zero_within_error: count(item(lines.next(), "zero-within-error")),
+                multipliers_zeroed: count(item(lines.next(), "multipliers-zeroed")),
+                rows: count(item(lines.next(), "rows")),
+            },
             outward: double(item(lines.next(), "outward")),
             declined: flag(item(lines.next(), "declined")),
         };

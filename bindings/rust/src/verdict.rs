@@ -1,14 +1,11 @@
 //! The verdict and its certificate.
-use crate::raw::RawVerdict;
+use crate::raw::{RawProof, RawVerdict};
 #[cfg(feature = "alloc")]
 use alloc::vec::Vec;
 
-/// The answer to an accepted sheet.
-///
-/// `C` holds the certificate's lists: [`CertificateRef`] in the caller's buffers, `Certificate` in lists of its own,
-/// `()` where there are none, as from a text.
+/// The kept numbers: the solver's judgement, and what it is made of.
 #[derive(Clone, Copy, Debug, PartialEq)]
-pub struct Verdict<C> {
+pub struct Proof {
     /// Whether the certificate holds by the solver's judgement, but for the rounding that the allowance speaks of. An
     /// order is not to be declined on it alone.
     pub holds: bool,
@@ -28,6 +25,30 @@ pub struct Verdict<C> {
     pub multipliers_zeroed: usize,
     /// How many rows the certificate combines.
     pub rows: usize,
+}
+
+impl From<RawProof> for Proof {
+    fn from(raw: RawProof) -> Self {
+        Proof {
+            holds: raw.holds != 0,
+            gap: raw.gap,
+            allowance: raw.allowance,
+            cut: raw.cut,
+            zero_within_error: raw.zero_within_error,
+            multipliers_zeroed: raw.multipliers_zeroed,
+            rows: raw.rows,
+        }
+    }
+}
+
+/// The answer to an accepted sheet.
+///
+/// `C` holds the certificate's lists: [`CertificateRef`] in the caller's buffers, `Certificate` in lists of its own,
+/// `()` where there are none, as from a text.
+#[derive(Clone, Copy, Debug, PartialEq)]
+pub struct Verdict<C> {
+    /// The kept numbers.
+    pub proof: Proof,
     /// The gap over the widened ranges, with every step rounded so that it is never too high; or −infinity. Where it is
     /// above 0 no point in these ranges meets every row exactly.
     pub outward: f64,
@@ -39,34 +60,12 @@ pub struct Verdict<C> {
 
 impl<C> Verdict<C> {
     pub(crate) fn new(raw: RawVerdict, certificate: C) -> Self {
-        Verdict {
-            holds: raw.holds != 0,
-            gap: raw.gap,
-            allowance: raw.allowance,
-            cut: raw.cut,
-            zero_within_error: raw.zero_within_error,
-            multipliers_zeroed: raw.multipliers_zeroed,
-            rows: raw.rows,
-            outward: raw.outward,
-            declined: raw.declined != 0,
-            certificate,
-        }
+        Verdict { proof: raw.proof.into(), outward: raw.outward, declined: raw.declined != 0, certificate }
     }
 
     /// The same numbers with another certificate.
     pub fn with<D>(self, certificate: D) -> Verdict<D> {
-        Verdict {
-            holds: self.holds,
-            gap: self.gap,
-            allowance: self.allowance,
-            cut: self.cut,
-            zero_within_error: self.zero_within_error,
-            multipliers_zeroed: self.multipliers_zeroed,
-            rows: self.rows,
-            outward: self.outward,
-            declined: self.declined,
-            certificate,
-        }
+        Verdict { proof: self.proof, outward: self.outward, declined: self.declined, certificate }
     }
 }
 

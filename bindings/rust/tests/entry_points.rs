@@ -1,4 +1,4 @@
-//! The widened list as records and as two lists: the same answer, and the same lists left behind, by bits.
+//! The widened list as records, whatever stands behind their flags: the same answer, and the same lists left behind, by bits.
 #![cfg(feature = "alloc")]
 mod common;
 use common::{changed, parts};
@@ -11,22 +11,9 @@ const FILL_TERMS: u32 = 0x5A5A_5A5A;
 const UPS: [u8; 4] = [0, 1, 2, 255];
 const BEHIND: [u64; 3] = [0, 0x5A, u64::MAX];
 
-/// The widened items as two lists.
-#[derive(Clone, Default)]
-struct Items {
-    variables: Vec<usize>,
-    ups: Vec<u8>,
-}
-
-impl Items {
-    fn of(items: &[(usize, u8)]) -> Self {
-        Items { variables: items.iter().map(|item| item.0).collect(), ups: items.iter().map(|item| item.1).collect() }
-    }
-
-    /// As records, every byte behind a flag set from `behind`.
-    fn records(&self, behind: u64) -> Vec<[u64; 2]> {
-        self.variables.iter().zip(&self.ups).map(|(&v, &up)| [v as u64, behind << 8 | u64::from(up)]).collect()
-    }
+/// The items as records, every byte behind a flag set from `behind`.
+fn records(items: &[(usize, u8)], behind: u64) -> Vec<[u64; 2]> {
+    items.iter().map(|&(v, up)| [v as u64, behind << 8 | u64::from(up)]).collect()
 }
 
 fn as_widened(records: &[[u64; 2]]) -> &[Widened] {
@@ -59,13 +46,13 @@ fn outcome(
     let has_errors = verdict.as_ref().is_ok_and(|verdict| verdict.certificate.errors.is_some());
     let answer = verdict.map(|verdict| {
         [
-            u64::from(verdict.holds),
-            verdict.gap.to_bits(),
-            verdict.allowance.to_bits(),
-            verdict.cut.to_bits(),
-            verdict.zero_within_error as u64,
-            verdict.multipliers_zeroed as u64,
-            verdict.rows as u64,
+            u64::from(verdict.proof.holds),
+            verdict.proof.gap.to_bits(),
+            verdict.proof.allowance.to_bits(),
+            verdict.proof.cut.to_bits(),
+            verdict.proof.zero_within_error as u64,
+            verdict.proof.multipliers_zeroed as u64,
+            verdict.proof.rows as u64,
             verdict.outward.to_bits(),
             u64::from(verdict.declined),
         ]
@@ -73,21 +60,23 @@ fn outcome(
     Outcome { answer, has_errors, doubles: [high, low, magnitudes, errors].map(|list| list.map(f64::to_bits)), terms }
 }
 
-/// Weighs in both ways, whatever stands behind the flags, and answers what came of it.
-fn both_with(slices: &Slices<'_>, items: &Items, errors_length: usize) -> Outcome {
-    let Items { variables, ups } = items;
-    let right = outcome(|lists| weigh_two_lists_into(slices, variables, ups, lists), errors_length);
-    for behind in BEHIND {
-        let records = items.records(behind);
-        let sheet = Slices { widened: as_widened(&records), ..*slices };
-        assert_eq!(outcome(|lists| weigh_into(&sheet, lists), errors_length), right, "{ups:?}");
-        assert_eq!(records, items.records(behind));
+/// Weighs with each of the bytes behind the flags, and answers what came of it.
+fn weighed_with(slices: &Slices<'_>, items: &[(usize, u8)], errors_length: usize) -> Outcome {
+    let [right, others @ ..] = BEHIND.map(|behind| {
+        let lent = records(items, behind);
+        let sheet = Slices { widened: as_widened(&lent), ..*slices };
+        let outcome = outcome(|lists| weigh_into(&sheet, lists), errors_length);
+        assert_eq!(lent, records(items, behind));
+        outcome
+    });
+    for other in others {
+        assert_eq!(other, right, "{items:?}");
     }
     right
 }
 
-fn both(slices: &Slices<'_>, items: &Items) -> Outcome {
-    both_with(slices, items, 5)
+fn weighed(slices: &Slices<'_>, items: &[(usize, u8)]) -> Outcome {
+    weighed_with(slices, items, 5)
 }
 
 fn untouched(outcome: &Outcome) -> bool {
@@ -108,7 +97,7 @@ fn real() -> Sheet {
 #[test]
 fn the_example() {
     let sheet = parts().sheet();
-    let outcome = both(&sheet.slices(), &Items::default());
+    let outcome = weighed(&sheet.slices(), &[]);
     assert_eq!(outcome.answer.unwrap()[7], 2f64.to_bits());
     assert_eq!(outcome.terms[..3], [1, 1, FILL_TERMS]);
 }
@@ -116,13 +105,13 @@ fn the_example() {
 #[test]
 fn any_byte_but_0_is_up() {
     let sheet = real();
-    let outward = |items: &[(usize, u8)]| both(&sheet.slices(), &Items::of(items)).answer.unwrap()[7];
+    let outward = |items: &[(usize, u8)]| weighed(&sheet.slices(), items).answer.unwrap()[7];
     assert_ne!(outward(&[(0, 0)]), outward(&[(0, 1)]));
     for up in UPS {
         assert_eq!(outward(&[(0, up)]), outward(&[(0, u8::from(up != 0))]));
         for other in UPS {
             for (variable, another) in [(0, 0), (0, 1), (1, 0), (1, 1)] {
-                let outcome = both(&sheet.slices(), &Items::of(&[(variable, up), (another, other)]));
+                let outcome = weighed(&sheet.slices(), &[(variable, up), (another, other)]);
                 let twice = variable == another && (up != 0) == (other != 0);
                 assert_eq!(outcome.answer.is_err(), twice, "{variable} {up}, {another} {other}");
                 assert_eq!(outcome.has_errors, !twice);
@@ -153,28 +142,28 @@ fn each_refusal() {
     ];
     let sheet = real();
     for up in UPS {
-        let fine = Items::of(&[(0, up), (1, 0), (1, 1)]);
+        let fine = [(0, up), (1, 0), (1, 1)];
         // no variable of this number, and one that comes twice
-        let amiss = [Items::of(&[(2, up)]), Items::of(&[(usize::MAX, up)]), Items::of(&[(0, up), (1, 7), (0, up)])];
+        let amiss: [&[(usize, u8)]; 3] = [&[(2, up)], &[(usize::MAX, up)], &[(0, up), (1, 7), (0, up)]];
         for (refusal, change) in CHANGES {
             let mut slices = sheet.slices();
             change(&mut slices);
-            let outcome = both(&slices, &fine);
+            let outcome = weighed(&slices, &fine);
             assert_eq!(outcome.answer, Err(refusal));
             assert!(untouched(&outcome));
             // the first "no" is the answer, before and behind the widened list's question
-            for items in &amiss {
-                let outcome = both(&slices, items);
+            for items in amiss {
+                let outcome = weighed(&slices, items);
                 assert_eq!(outcome.answer, Err(refusal.min(Refusal::Widened)));
                 assert!(untouched(&outcome));
             }
         }
-        for items in &amiss {
-            let outcome = both(&sheet.slices(), items);
+        for items in amiss {
+            let outcome = weighed(&sheet.slices(), items);
             assert_eq!(outcome.answer, Err(Refusal::Widened));
             assert!(untouched(&outcome));
         }
-        let short = both_with(&sheet.slices(), &fine, 1);
+        let short = weighed_with(&sheet.slices(), &fine, 1);
         assert_eq!(short.answer, Err(Refusal::Lengths));
         assert!(untouched(&short));
     }
@@ -185,19 +174,14 @@ fn lists_as_long_as_they_can_be_and_longer() {
     let sheet = common::sized(128, 256);
     let mut items: Vec<(usize, u8)> = (0..MOST_VARIABLES).flat_map(|v| [(v, 0), (v, 0x80)]).collect();
     assert_eq!(items.len(), MOST_WIDENED);
-    let answers = |items: &[(usize, u8)]| {
-        let Items { variables, ups } = Items::of(items);
-        let records = Items::of(items).records(u64::MAX);
-        let (mut buffers, mut others) = (Buffers::new(), Buffers::new());
-        let slices = sheet.slices();
-        let two_lists = weigh_two_lists_into(&slices, &variables, &ups, buffers.lists());
-        let widened = weigh_into(&Slices { widened: as_widened(&records), ..slices }, others.lists());
-        assert_eq!(two_lists, widened);
-        widened.err()
+    let refusal = |items: &[(usize, u8)]| {
+        let lent = records(items, u64::MAX);
+        let mut buffers = Buffers::new();
+        weigh_into(&Slices { widened: as_widened(&lent), ..sheet.slices() }, buffers.lists()).err()
     };
-    assert_eq!(answers(&items), None);
+    assert_eq!(refusal(&items), None);
     items.push((0, 0));
-    assert_eq!(answers(&items), Some(Refusal::Widened));
+    assert_eq!(refusal(&items), Some(Refusal::Widened));
     items.resize(100_000, (usize::MAX, 255));
-    assert_eq!(answers(&items), Some(Refusal::Widened));
+    assert_eq!(refusal(&items), Some(Refusal::Widened));
 }

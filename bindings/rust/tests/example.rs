@@ -5,13 +5,13 @@ use common::{changed, parts, TEXT};
 use ushnazar::*;
 
 fn has_the_papers_numbers<C>(verdict: &Verdict<C>) {
-    assert!(verdict.holds);
-    assert_eq!(verdict.gap.to_bits(), 0x4000000000000000);
-    assert_eq!(verdict.allowance.to_bits(), 0x39F8000000000000);
-    assert_eq!(verdict.cut.to_bits(), 0x3CB0000000000324);
-    assert_eq!(verdict.zero_within_error, 0);
-    assert_eq!(verdict.multipliers_zeroed, 0);
-    assert_eq!(verdict.rows, 1);
+    assert!(verdict.proof.holds);
+    assert_eq!(verdict.proof.gap.to_bits(), 0x4000000000000000);
+    assert_eq!(verdict.proof.allowance.to_bits(), 0x39F8000000000000);
+    assert_eq!(verdict.proof.cut.to_bits(), 0x3CB0000000000324);
+    assert_eq!(verdict.proof.zero_within_error, 0);
+    assert_eq!(verdict.proof.multipliers_zeroed, 0);
+    assert_eq!(verdict.proof.rows, 1);
     assert_eq!(verdict.outward.to_bits(), 0x4000000000000000);
     assert!(verdict.declined);
 }

@@ -7,9 +7,9 @@ use ushnazar::*;
 #[test]
 fn right_side_1_nothing_holds() {
     let verdict = both(&changed(|parts| parts.right_side = 1.0));
-    assert_eq!(verdict.gap, 0.0);
+    assert_eq!(verdict.proof.gap, 0.0);
     assert_eq!(verdict.outward, 0.0);
-    assert!(!verdict.holds);
+    assert!(!verdict.proof.holds);
     assert!(!verdict.declined);
 }
 
@@ -19,11 +19,11 @@ fn a_real_variable_without_limit() {
         parts.domain = Domain::Real;
         parts.cake.max = f64::INFINITY;
     }));
-    assert_eq!(verdict.gap, f64::NEG_INFINITY);
+    assert_eq!(verdict.proof.gap, f64::NEG_INFINITY);
     assert_eq!(verdict.outward, f64::NEG_INFINITY);
-    assert_eq!(verdict.cut.to_bits(), 0);
-    assert_eq!(verdict.allowance.to_bits(), 0x39E8000000000000);
-    assert!(!verdict.holds);
+    assert_eq!(verdict.proof.cut.to_bits(), 0);
+    assert_eq!(verdict.proof.allowance.to_bits(), 0x39E8000000000000);
+    assert!(!verdict.proof.holds);
     assert!(!verdict.declined);
 }
 

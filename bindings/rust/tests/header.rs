@@ -87,9 +87,7 @@ fn items(list: &str) -> Vec<String> {
 fn arguments() {
     const RAW: &str = include_str!("../src/raw.rs");
     let header = header_code();
-    for (name, count) in
-        [("sheet_verdict", 51), ("verdict_of", 53), ("weigh_text", 4), ("cdouble_add", 2), ("cdouble_add_scaled", 3)]
-    {
+    for (name, count) in [("sheet_verdict", 51), ("weigh_text", 4), ("cdouble_add", 2), ("cdouble_add_scaled", 3)] {
         let in_header = items(between(&header, &format!(" {name}("), ");").expect("a declaration in the header"));
         let here = items(between(RAW, &format!("    fn {name}("), ")").expect("a declaration in raw.rs"));
         assert_eq!(in_header.iter().map(|item| in_rust(item)).collect::<Vec<_>>(), here, "{name}");

@@ -73,7 +73,6 @@ fn lengths_3() {
     assert_eq!(of_slices(|slices| slices.second = &[]), Some(Refusal::Lengths));
     let sheet = parts().sheet();
     let mut buffers = Buffers::new();
-    assert_eq!(weigh_two_lists_into(&sheet.slices(), &[0], &[], buffers.lists()).err(), Some(Refusal::Lengths));
     let mut lists = buffers.lists();
     lists.errors = &mut [];
     assert_eq!(weigh_into(&sheet.slices(), lists).err(), Some(Refusal::Lengths));

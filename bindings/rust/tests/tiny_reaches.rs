@@ -20,10 +20,10 @@ const TINY: u64 = 0x1A70000000000000;
 
 fn just_does_not_hold(sheet: &Sheet) {
     let verdict = both(sheet);
-    assert!(!verdict.holds);
-    assert_eq!(verdict.gap.to_bits(), 1);
-    assert_eq!(verdict.allowance.to_bits(), 1);
-    assert_eq!(verdict.cut.to_bits(), 0);
+    assert!(!verdict.proof.holds);
+    assert_eq!(verdict.proof.gap.to_bits(), 1);
+    assert_eq!(verdict.proof.allowance.to_bits(), 1);
+    assert_eq!(verdict.proof.cut.to_bits(), 0);
     assert_eq!(verdict.outward.to_bits(), 0);
     assert!(!verdict.declined);
 }
@@ -41,13 +41,13 @@ fn a_tiny_reach_does_not_vanish() {
 #[test]
 fn a_wide_tolerance_is_rounded_up() {
     let verdict = both(&reaching(0x3FF0000000000001, 0x7E40000000000001, 1.0).sheet());
-    assert_eq!(verdict.allowance.to_bits(), 0x7E40000000000004);
+    assert_eq!(verdict.proof.allowance.to_bits(), 0x7E40000000000004);
 }
 
 /// The reach is MAX exactly, where the Rust has +infinity; the allowance is +infinity in both.
 #[test]
 fn a_reach_of_the_largest_double() {
     let verdict = both(&reaching(0x5FF0000000000000, 0x5FEFFFFFFFFFFFFF, 1.0).sheet());
-    assert_eq!(verdict.allowance, f64::INFINITY);
-    assert!(!verdict.holds);
+    assert_eq!(verdict.proof.allowance, f64::INFINITY);
+    assert!(!verdict.proof.holds);
 }

@@ -2,19 +2,14 @@
 ghost use Rattle.std.specs.Prelude.{◌≡◌, ◌<◌, ◌-◌, ◌^◌};
 ghost use Rattle.adjacent.specs.Fields.{Laid, double_of, plus};
 
+use rank_arithmetic::{FIELD, SIGN};
 use std::num::f64_to_bits_with_nan;
-
-/// What an exponent of 1 is in the bits: 2^52.
-pub(crate) const EXPONENT: u64 = 1 << 52;
-
-/// What the sign is: 2^63.
-pub(crate) const SIGN: u64 = 1 << 63;
 
 /// The exponent of infinities and NaNs, all ones.
 pub(crate) const INFINITE: u64 = 2047;
 
 /// Digits all ones.
-pub(crate) const ONES: u64 = EXPONENT - 1;
+pub(crate) const ONES: u64 = FIELD - 1;
 
 /// Sign, exponent and digits.
 #[derive(Clone, Copy)]
@@ -31,8 +26,8 @@ pub(crate) fn fields_of(x: f64) -> Fields
     let b = f64_to_bits_with_nan(x);
     Fields {
         negative: b >= SIGN,
-        exponent: b / EXPONENT % 2048,
-        digits: b % EXPONENT,
+        exponent: b / FIELD % 2048,
+        digits: b % FIELD,
     }
 }
 
@@ -41,5 +36,5 @@ pub(crate) fn plus(exponent: u64, digits: u64) -> f64
     requires { (exponent < 2 ^ 11 - 1) × (digits < 2 ^ 52) }
     ensures { result ≡ plus exponent digits }
 {
-    f64::from_bits(exponent * EXPONENT + digits)
+    f64::from_bits(exponent * FIELD + digits)
 }

@@ -4,7 +4,40 @@ ghost use Rattle.std.specs.Prelude.{◌≡◌, cond, eqb, T, ◌%◌, ◌<◌, �
 ghost use Rattle.doubles.specs.Neighbours.{next_down, next_up};
 ghost use Rattle.adjacent.specs.Fields.{Normal};
 
-use crate::fields::{EXPONENT, ONES, SIGN};
+use crate::fields::ONES;
+use rank_arithmetic::{FIELD, SIGN};
+
+/// One digit more, which leaves the exponent: the digits are not all ones.
+fn digit_more(b: u64) -> u64
+    requires { (b % 2 ^ 52 < 2 ^ 52 - 1) × (b < 2 ^ 64 - 2 ^ 52) }
+    ensures { result ≡ b + 1 }
+{
+    b + 1
+}
+
+/// The next exponent with digits 0: the digits are all ones.
+fn next_exponent(b: u64) -> u64
+    requires { (b % 2 ^ 52 ≡ 2 ^ 52 - 1) × (b < 2 ^ 64 - 2 ^ 52) }
+    ensures { result ≡ b + 2 ^ 52 - (2 ^ 52 - 1) }
+{
+    b + FIELD - ONES
+}
+
+/// One digit less, which leaves the exponent: the digits are not 0.
+fn digit_less(b: u64) -> u64
+    requires { 0 < b % 2 ^ 52 }
+    ensures { result ≡ b - 1 }
+{
+    b - 1
+}
+
+/// The exponent before with digits all ones: the digits are 0.
+fn exponent_before(b: u64) -> u64
+    requires { (b % 2 ^ 52 ≡ 0) × (2 ^ 52 ≤ b) }
+    ensures { result ≡ b - 2 ^ 52 + (2 ^ 52 - 1) }
+{
+    b - FIELD + ONES
+}
 
 /// Where `step`, the bits of the neighbour further from 0.
 fn further(b: u64, step: bool) -> u64
@@ -13,12 +46,12 @@ fn further(b: u64, step: bool) -> u64
 {
     if !step {
         b
-    } else if b % EXPONENT == ONES {
-        // of MAX the infinity, and of the rest below a power of two that one: the next exponent with digits 0
-        b + EXPONENT - ONES
+    } else if b % FIELD == ONES {
+        // of MAX the infinity, and of the rest below a power of two that one
+        next_exponent(b)
     } else {
-        // of a power of two and the rest: one digit more
-        b + 1
+        // of a power of two and the rest
+        digit_more(b)
     }
 }
 
@@ -29,12 +62,12 @@ fn nearer(b: u64, step: bool) -> u64
 {
     if !step {
         b
-    } else if b % EXPONENT == 0 {
-        // of a power of two: the exponent before with digits all ones
-        b - EXPONENT + ONES
+    } else if b % FIELD == 0 {
+        // of a power of two
+        exponent_before(b)
     } else {
-        // of MAX and the rest: one digit less
-        b - 1
+        // of MAX and the rest
+        digit_less(b)
     }
 }
 

@@ -2,7 +2,8 @@
 use Rattle.std.specs.Prelude.{ℕ, List, [], ◌∷◌, ◌+◌, ◌%◌, ◌^◌, ◌-◌, cond, eqb, min, take, set, get_or}
 use Rattle.std.specs.Float.{binary64}
 use Rattle.std.specs.Float.Ieee.{of_bits}
-use Rattle.sheet.specs.declared.answers.Outputs.{Outputs}
+use Rattle.questions.specs.declared.widened.Widened.{Widened}
+use Rattle.sheet.specs.declared.outputs.Outputs.{Outputs}
 use Rattle.sheet.specs.Sheet.{Sheet, sheet}
 use Rattle.case_slices.specs.declared.Numbers.{Numbers}
 use Rattle.case_slices.specs.declared.Slices.{Slices}
@@ -28,6 +29,10 @@ with_number n place value =
 abbrev pub put_if : {A : Type 0} → Slice → Slice → ℕ → A → List A → List A
 put_if slice this place value xs = cond (eqb (number_of slice) (number_of this)) (set xs place value) xs
 
+-- the widened item at a place
+abbrev pub item_at : Slices → ℕ → Widened
+item_at s place = get_or s.widened place (record { variable = 0; up = 0 })
+
 -- the slices with a value put at a place of one of them, a double as its pattern, a flag as its last eight bits
 abbrev pub with_value : Slices → Slice → ℕ → ℕ → Slices
 with_value s slice place value =
@@ -45,8 +50,9 @@ with_value s slice place value =
       basic = put_if slice Basic place (value % 256) s.basic;
       places = put_if slice Places place value s.places;
       values = put_if slice Values place (of_bits binary64 value) s.values;
-      widened_vars = put_if slice WidenedVars place value s.widened_vars;
-      widened_ups = put_if slice WidenedUps place (value % 256) s.widened_ups;
+      widened =
+          put_if slice WidenedUps place (record { variable = (item_at s place).variable; up = value % 256 })
+          (put_if slice WidenedVars place (record { variable = value; up = (item_at s place).up }) s.widened);
       rho_hi = put_if slice RhoHi place (of_bits binary64 value) s.rho_hi;
       rho_lo = put_if slice RhoLo place (of_bits binary64 value) s.rho_lo;
       second = put_if slice Second place (of_bits binary64 value) s.second;
@@ -68,10 +74,14 @@ lengths n widened = lengths_for n.rows n.structurals n.entries (held n.rows n.st
 abbrev pub front : {A : Type 0} → List ℕ → List A → Slice → List A
 front {A} ls xs slice = take (get_or ls (number_of slice) 0) xs
 
--- the sheet of numbers, and of the front of each slice, as long as its length says
-abbrev pub lent : Slices → Numbers → List ℕ → Outputs → Sheet
-lent s n ls outputs =
+-- the widened list: the front of its items, as long as the length of its variables says
+abbrev pub recorded : Slices → List ℕ → List Widened
+recorded s ls = front ls s.widened WidenedVars
+
+-- the sheet of numbers, of a widened list, and of the front of each slice, as long as its length says
+abbrev pub lent : Slices → Numbers → List ℕ → List Widened → Outputs → Sheet
+lent s n ls widened outputs =
     sheet (record { rows = n.rows; structurals = n.structurals; entries = n.entries }) n.feasibility n.checked n.leaving_row n.leaving_up outputs
     (front ls s.starts Starts) (front ls s.columns Columns) (front ls s.entries Entries) (front ls s.right_sides RightSides) (front ls s.scales Scales) (front ls s.integer Integer)
     (front ls s.mins Mins) (front ls s.maxs Maxs) (front ls s.low_tolerances LowTolerances) (front ls s.high_tolerances HighTolerances) (front ls s.basic Basic) (front ls s.places Places)
-    (front ls s.values Values) (front ls s.widened_vars WidenedVars) (front ls s.widened_ups WidenedUps) (front ls s.rho_hi RhoHi) (front ls s.rho_lo RhoLo) (front ls s.second Second)
+    (front ls s.values Values) widened (front ls s.rho_hi RhoHi) (front ls s.rho_lo RhoLo) (front ls s.second Second)

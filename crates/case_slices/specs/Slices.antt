@@ -1,6 +1,5 @@
 -- The slices of a sheet that a table of cases fills. Assumes nothing.
 use Rattle.std.specs.Prelude.{ℕ}
-use Rattle.sheet.specs.declared.answers.Outputs.{Outputs}
 use Rattle.case_slices.specs.declared.Slice.{Slice}
 use Rattle.case_slices.specs.declared.Slice.TheVariants.{Starts, Columns, Entries, RightSides, Scales, Integer, Mins, Maxs, LowTolerances, HighTolerances}
 use Rattle.case_slices.specs.declared.Slice.TheVariants.{Basic, Places, Values, WidenedVars, WidenedUps, RhoHi, RhoLo, Second}
@@ -46,7 +45,3 @@ room WidenedUps = 776
 room RhoHi = 132
 room RhoLo = 132
 room Second = 132
-
--- outputs that have the same number of places
-abbrev pub alike : ℕ → Outputs
-alike length = record { high = length; low = length; magnitudes = length; terms = length; errors = length }

@@ -1,14 +1,17 @@
-//! The slices of a sheet that a table of cases fills: room for each, and the front of it that the sheet has.
+//! The slices of a sheet that a table of cases fills: room for each, and the front of it that the sheet has. The widened list, whose
+//! variables and sides are two slices of a table, is lent apart, as records.
 
 #![tactic(auto)]
 
-ghost use Rattle.std.specs.Prelude.{◌≡◌, ◌%◌, ◌≤◌, length, take, nat_lt, set, MatchOption};
-ghost use Rattle.case_slices.specs.Slices.{alike, number_of, room};
-ghost use Rattle.case_slices.specs.Cases.{lengths, lent, with_number, with_value};
+ghost use Rattle.std.specs.Prelude.{◌≡◌, ◌%◌, ◌≤◌, List, length, take, nat_lt, set, MatchOption};
+ghost use Rattle.questions.specs.declared.widened.Widened.{Widened};
+ghost use Rattle.case_slices.specs.Slices.{number_of, room};
+ghost use Rattle.case_slices.specs.Cases.{item_at, lengths, lent, recorded, with_number, with_value};
 ghost use Rattle.sheet.specs.Lent.{lent_sheet};
-ghost use Rattle.sheet.specs.declared.answers.Outputs.{Outputs};
+ghost use Rattle.sheet.specs.declared.outputs.Outputs.{Outputs};
 
-use sheet::{Outputs, Sheet};
+use questions::Widened;
+use sheet::Sheet;
 use tables::double_of;
 
 /// A few more rows, structural variables, variables, widened items and entries than a sheet may have.
@@ -22,13 +25,13 @@ pub const WIDENED: usize = 776;
 
 pub const ENTRIES: usize = 4100;
 
-/// How many slices a sheet has. After them a table may name the numbers of a sheet.
+/// How many slices a table has of a sheet. After them it may name the numbers of a sheet.
 pub const SLICES: usize = 18;
 
 /// How many numbers `Numbers::put` knows.
 pub const NUMBERS: usize = 7;
 
-/// A slice of a sheet.
+/// A slice that a table has of a sheet.
 #[derive(Clone, Copy)]
 pub enum Slice {
     Starts,
@@ -144,6 +147,9 @@ impl Numbers {
     }
 }
 
+/// A widened item before a table says anything of it.
+const NO_ITEM: Widened = Widened { variable: 0, up: 0 };
+
 /// Room for each slice.
 // Kept: a sheet lends its slices apart, and the programs have no heap, so each has an array of its own.
 #[derive(Drop)]
@@ -161,8 +167,7 @@ pub struct Slices {
     pub basic: [u8; VARIABLES],
     pub places: [usize; VARIABLES],
     pub values: [f64; VARIABLES],
-    pub widened_vars: [usize; WIDENED],
-    pub widened_ups: [u8; WIDENED],
+    pub widened: [Widened; WIDENED],
     pub rho_hi: [f64; ROWS],
     pub rho_lo: [f64; ROWS],
     pub second: [f64; ROWS],
@@ -184,12 +189,18 @@ impl Slices {
         basic: [0; VARIABLES],
         places: [0; VARIABLES],
         values: [0.0; VARIABLES],
-        widened_vars: [0; WIDENED],
-        widened_ups: [0; WIDENED],
+        widened: [NO_ITEM; WIDENED],
         rho_hi: [0.0; ROWS],
         rho_lo: [0.0; ROWS],
         second: [0.0; ROWS],
     };
+
+    /// The widened item at a place, one of 0 past the last.
+    fn item(&self, place: usize) -> Widened
+        ensures { result ≡ item_at self.now place }
+    {
+        self.widened.get(place).copied().unwrap_or(NO_ITEM)
+    }
 
     /// Puts a value at a place of a slice, a number, a flag or a double's pattern, and answers whether there is room.
     pub fn put(&mut self, slice: Slice, place: usize, value: usize) -> bool
@@ -198,6 +209,7 @@ impl Slices {
     {
         let flag = byte(value);
         let real = double_of(value as u64);
+        let item = self.item(place);
         // Kept: each slice is a field, and they have three types, so no table of them can be looked up.
         match slice {
             Slice::Starts => put_at(&mut self.starts, place, value),
@@ -213,17 +225,38 @@ impl Slices {
             Slice::Basic => put_at(&mut self.basic, place, flag),
             Slice::Places => put_at(&mut self.places, place, value),
             Slice::Values => put_at(&mut self.values, place, real),
-            Slice::WidenedVars => put_at(&mut self.widened_vars, place, value),
-            Slice::WidenedUps => put_at(&mut self.widened_ups, place, flag),
+            Slice::WidenedVars => put_at(
+                &mut self.widened,
+                place,
+                Widened {
+                    variable: value,
+                    up: item.up,
+                },
+            ),
+            Slice::WidenedUps => put_at(
+                &mut self.widened,
+                place,
+                Widened {
+                    variable: item.variable,
+                    up: flag,
+                },
+            ),
             Slice::RhoHi => put_at(&mut self.rho_hi, place, real),
             Slice::RhoLo => put_at(&mut self.rho_lo, place, real),
             Slice::Second => put_at(&mut self.second, place, real),
         }
     }
 
-    /// The sheet of the fronts of these slices, each of its length, and of the numbers.
+    /// The widened list: the front of the items, as long as that of the variables.
+    pub fn records(&self, lengths: &[usize; SLICES]) -> &[Widened]
+        ensures { result.now ≡ recorded self.now lengths.now }
+    {
+        part(&self.widened, lengths[Slice::WidenedVars as usize])
+    }
+
+    /// The sheet but its widened list: the fronts of these slices, each of its length, and the numbers.
     pub fn lent(&self, n: &Numbers, lengths: &[usize; SLICES]) -> Sheet<'_>
-        ensures { (outputs : Outputs) → lent_sheet result outputs ≡ lent self.now n.now lengths.now outputs }
+        ensures { (widened : List Widened) (outputs : Outputs) → lent_sheet result widened outputs ≡ lent self.now n.now lengths.now widened outputs }
     {
         Sheet {
             rows: n.rows,
@@ -249,8 +282,6 @@ impl Slices {
             basic: part(&self.basic, lengths[Slice::Basic as usize]),
             places: part(&self.places, lengths[Slice::Places as usize]),
             values: part(&self.values, lengths[Slice::Values as usize]),
-            widened_variables: part(&self.widened_vars, lengths[Slice::WidenedVars as usize]),
-            widened_ups: part(&self.widened_ups, lengths[Slice::WidenedUps as usize]),
             rho_hi: part(&self.rho_hi, lengths[Slice::RhoHi as usize]),
             rho_lo: part(&self.rho_lo, lengths[Slice::RhoLo as usize]),
             second: part(&self.second, lengths[Slice::Second as usize]),
@@ -284,17 +315,4 @@ pub fn byte(n: usize) -> u8
 {
     // Kept: `u8::try_from` refuses what is above 255, and `as u8` alone is proved only where no bit is lost.
     (n % 256) as u8
-}
-
-/// Outputs of one length.
-pub fn outputs_alike(length: usize) -> Outputs
-    ensures { result ≡ alike length }
-{
-    Outputs {
-        high: length,
-        low: length,
-        magnitudes: length,
-        terms: length,
-        errors: length,
-    }
 }

@@ -1,29 +1,15 @@
--- What the functions' proofs share: a law of a definition holds of a result that is equal to it, and the ways of the tests. Assumes nothing.
-use Rattle.std.proofs.Common.{◌≡◌, Bool, true, false, cond, not, pos, sym, refl, ap, ◌∙◌, subst, true≢false}
+-- What the functions' proofs share: a law of a definition holds of a result that is equal to it, and the tests of `rounded` and of `abs_up`. Assumes nothing.
+use Rattle.std.proofs.Common.{◌≡◌, Bool, true, false, cond, pos, sym, refl, ap, ◌∙◌, subst}
 use lib.Ieee.{Float, fin, binary64, lt, mul, round, units, of_bits, of_fields, odd, size}
 use Rattle.std.proofs.lemmas.Float.{one_f64_is}
 use lib.Count.{count_trailing_zeros}
 use Rattle.doubles.specs.Neighbours.{next_up, next_down}
+use Rattle.loops.proofs.Branches.{when_false}
 use Rattle.cdouble.specs.declared.CDouble.{CDouble}
 use Rattle.cdouble.specs.Compensated.{plus_zero, upper, lower, normalized, rounded, value, negated, abs_up, unit_error}
 
 pub carried : {A : Type 0} {r d : A} {R : Type 0} (P : A → Type 0) → r ≡ d → (R → P d) → (r ≡ d) × (R → P r)
 carried P e f = (e, λ x. subst P (sym e) (f x))
-
--- the two ways of a test
-pub when_true : {A : Type 0} {b : Bool} {r x : A} (y : A) → r ≡ x → b ≡ true → r ≡ cond b x y
-when_true {r = r} {x = x} y e t = subst (λ (b : Bool). r ≡ cond b x y) (sym t) e
-
-pub when_false : {A : Type 0} {b : Bool} {r y : A} (x : A) → r ≡ y → b ≡ false → r ≡ cond b x y
-when_false {r = r} {y = y} x e t = subst (λ (b : Bool). r ≡ cond b x y) (sym t) e
-
--- a test and its negation
-pub not_true : (b : Bool) → not b ≡ true → b ≡ false
-not_true true e = sym e
-not_true false e = refl
-
-pub differ : {A : Type 0} {b : Bool} → b ≡ true → b ≡ false → A
-differ t f = absurd (true≢false (sym t ∙ f))
 
 -- `rounded` where no test moves the high part of the normalized pair d
 pub rounded_stays : (c : CDouble) (up : Bool) {d : CDouble} → d ≡ normalized c → (up ≡ true → lt plus_zero d.lo ≡ false) → (up ≡ false → lt d.lo plus_zero ≡ false) → d.hi ≡ rounded c up

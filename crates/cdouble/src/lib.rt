@@ -35,6 +35,18 @@ impl CDouble {
     /// The allowance for the round-off of compensated sums, per term and per unit of the terms' magnitude: 16 · 2^-104.
     pub const COMPENSATED_ERROR: f64 = 16.0 * 4.930_380_657_631_324e-32;
 
+    /// 2^1022, up to which `two_sum` is exact.
+    pub const MOST_ADDEND: f64 = 4.49423283715579e307;
+
+    /// 2^510: the product of two numbers up to here is at most 2^1020.
+    pub const MOST_FACTOR: f64 = 3.3519519824856493e153;
+
+    /// 2^1020: two such numbers can be added to a third.
+    pub const MOST_END: f64 = 1.1235582092889474e307;
+
+    /// The rank of 2^-966. From 2^-969 on a rounded product shows its error.
+    pub const LEAST_FAR: u64 = f64::to_bits(1.6033346880071782e-291);
+
     /// `a + b`, rounded, and what the rounding left out (Knuth's two-sum).
     #[tactic(auto, using(doubles::proofs::Tests::fit, crate::proofs::TwoSum::two_sum_exact), unfolding(crate::specs::Compensated::two_sum))]
     pub fn two_sum(a: f64, b: f64) -> CDouble
@@ -60,9 +72,16 @@ impl CDouble {
     pub fn two_product(a: f64, b: f64) -> CDouble
         ensures { (result ≡ two_product a b) × (ProductRange a b → IsExact 1074 (exact a *ℤ exact b) result) }
     {
+        CDouble::halved_product(a, CDouble::split(a), b, CDouble::split(b))
+    }
+
+    /// `two_product` for factors whose halves `p` and `q` are at hand.
+    #[tactic(auto, unfolding(crate::specs::Compensated::two_product, crate::specs::Compensated::product_error))]
+    pub fn halved_product(a: f64, p: CDouble, b: f64, q: CDouble) -> CDouble
+        requires { (p ≡ split a) × (q ≡ split b) }
+        ensures { result ≡ two_product a b }
+    {
         let x = a * b;
-        let p = CDouble::split(a);
-        let q = CDouble::split(b);
         let a1 = p.hi;
         let a2 = p.lo;
         let b1 = q.hi;

@@ -8,7 +8,7 @@ ghost use Rattle.cdouble.specs.Exactness.{abs_ℤ, SumRange};
 use crate::CDouble;
 use adjacent::next_up;
 
-// Kept: `directed` has a fast form of this that asks for a range, and `CDouble::rounded` adds first; this one asks nothing.
+// Kept: `outward_by_errors` has a fast form of this that asks for a range, and `CDouble::rounded` adds first; this one asks nothing.
 /// The high part of `s`, or the next double up where the low part is above 0.
 #[tactic(auto, unfolding(crate::specs::Compensated::upper))]
 fn upper(s: CDouble) -> f64

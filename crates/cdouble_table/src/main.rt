@@ -1,4 +1,4 @@
-// Runs the crate `cdouble`, and `mul_up` of `directed`, on the table of standard input, which
+// Runs the crate `cdouble`, and `mul_up` of `outward_by_errors`, on the table of standard input, which
 // tests/cdouble_table/generate.py writes, and says for each operation how many cases were run and how many differ from
 // the table.
 //
@@ -8,7 +8,7 @@
 #![tactic(auto)]
 
 use cdouble::{CDouble, add_up, compensated_error, distance_up};
-use directed::mul_up;
+use outward_by_errors::mul_up;
 use std::{fmt, io};
 use tables::{Report, Tabled, Tallies, bits_of, double_of, each_line, numbers};
 

@@ -14,8 +14,9 @@ use Rattle.certificate.specs.declared.adding.Sums.{Sums}
 use Rattle.multipliers.specs.declared.weighing.Multiplier.{Multiplier}
 use Rattle.multipliers.specs.declared.weighing.Multiplier.TheVariants.{Zeroed, Dropped, Kept}
 use Rattle.std.proofs.Common.{Option, Some, None}
-use Rattle.certificate.specs.Added.{Lists, after_terms, kept_into, after_errors, spread_into, summed}
+use Rattle.certificate.specs.Added.{after_terms, kept_into, after_errors, spread_into, summed}
 use Rattle.certificate.specs.AddedReads.{Long}
+use Rattle.sheet.specs.Outputs.{Lists}
 
 -- ---- lengths
 pub record Same (l k : Lists) : Type 0 where

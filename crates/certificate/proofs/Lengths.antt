@@ -7,7 +7,7 @@ use lib.ListN.{length, get_or, length-take, length-drop}
 use lib.Ieee.{Float}
 use Rattle.questions.specs.Rows.{part}
 use Rattle.certificate.specs.System.{System, multiplier_at, right_side_at, row_columns, row_entries}
-use Rattle.certificate.specs.Added.{Lists}
+use Rattle.sheet.specs.Outputs.{Lists}
 use Rattle.certificate.specs.Certificate.{Certificate, with_row, after_rows}
 use Rattle.certificate.specs.Reads.{Lent, RowReadable, Counted}
 use Rattle.certificate.proofs.AddedLengths.{Same, same, then, kept_same, spread_same, long_same, kept_few, summed_grown}

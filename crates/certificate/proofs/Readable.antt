@@ -9,10 +9,10 @@ use borrow.Author.Tests.{eqb-true, ltb-true}
 use lib.Dec.{eqb, leb, ltb}
 use lib.ListN.{length, get_or}
 use Rattle.exact.proofs.Naturals.{le_or_lt}
-use Rattle.questions.specs.Places.{all_below}
+use Rattle.loops.specs.Places.{all_below}
 use Rattle.questions.specs.Rows.{RowsLie, slack_of}
 use Rattle.questions.specs.RowQuestions.{column_fine_at, row_columns_fine, row_columns_fine_at, columns_fine}
-use Rattle.questions.proofs.All.{each, all_at, and_left}
+use Rattle.loops.proofs.All.{each, all_at, and_left}
 use Rattle.sheet.specs.Sheet.{Sheet, variables}
 use Rattle.sheet.specs.Answers.{Accepted}
 use Rattle.sheet.proofs.Accepted.{AllYes, all_yes, rows_lie}
@@ -61,17 +61,12 @@ module _ (s : Sheet) (accepted : Accepted s) where
   pub row_readable : (estimated leaving_up : Bool) (r : ℕ) → r < s.rows → RowReadable (rows_with s estimated leaving_up) r (variables s)
   row_readable estimated leaving_up r less =
       record {
-        slack = omega arith;
         in_starts = omega (arith, (by_row s all).starts_long);
         rises = lie.rises r less;
         inside = omega (arith, lie.inside r less, (by_row s all).columns_long);
         same = (by_row s all).entries_long ∙ sym (by_row s all).columns_long;
         within = row_within r less;
         in_right_sides = omega (arith, (by_row s all).right_sides_long);
-        in_mins = omega (arith, (by_variable s all).mins_long);
-        in_maxs = omega (arith, (by_variable s all).maxs_long);
         in_basic = omega (arith, (by_variable s all).basic_long);
-        in_rho_hi = omega (arith, (by_row s all).rho_hi_long);
-        in_rho_lo = omega (arith, (by_row s all).rho_lo_long);
         in_second = omega (arith, (by_row s all).second_long);
       }

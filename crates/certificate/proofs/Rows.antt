@@ -10,13 +10,14 @@ use Rattle.multipliers.specs.declared.weighing.Multiplier.{Multiplier}
 use Rattle.std.proofs.Common.{Option}
 use Rattle.multipliers.specs.Multipliers.{spreads}
 use Rattle.certificate.specs.System.{System, error_at, multiplier_at, right_side_at, row_columns, row_entries}
-use Rattle.certificate.specs.Added.{Lists, kept_into, spread_into, no_sums, summed}
+use Rattle.certificate.specs.Added.{kept_into, spread_into, no_sums, summed}
 use Rattle.certificate.specs.Certificate.{Certificate, certificate, with_row, after_rows}
 use Rattle.certificate.specs.AddedReads.{RowFits, ErrorsFit}
-use Rattle.certificate.specs.Reads.{Counted, RowGoesOn, RowsGoOn}
+use Rattle.certificate.specs.Reads.{Counted, RowGoesOn, RowsGoOn, Weighed}
 use Rattle.certificate.proofs.AddedLengths.{Same}
 use Rattle.certificate.proofs.Lengths.{after_rows_same, lent_same, part-long, row_counted}
-use Rattle.exact.proofs.Turns.{Turn, first, next}
+use Rattle.loops.proofs.Turns.{Turn, first, next}
+use Rattle.sheet.specs.Outputs.{Lists}
 
 -- ---- one row: what its functions ask, and what they make together
 module _ {m : System} {r count : ℕ} {c : Certificate} (goes : RowGoesOn m r count c) where
@@ -69,6 +70,9 @@ module _ {m : System} {r count : ℕ} {c : Certificate} (goes : RowGoesOn m r co
       into = kept_into (multiplier_at m r) (row_columns m r) (row_entries m r) c.lists_of
 
 -- ---- the rows
+pub fewer : {m : System} {n k : ℕ} {list : List Multiplier} → Weighed m n list → k ≤ n → Weighed m k list
+fewer weighed less = record { long = omega (arith, weighed.long, less); at = λ r below. weighed.at r (omega arith) }
+
 module _ {m : System} {rows count : ℕ} {l : Lists} {errors : List Float} (go : RowsGoOn m rows count l errors) where
   abbrev before : Certificate
   before = certificate l errors no_sums

@@ -1,7 +1,7 @@
 -- Each list lent by the same reference, over two calls. Assumes nothing.
 use mathlib.Core.Path.{◌∙◌}
-use Rattle.certificate.specs.declared.lent.Lists.{Lists as Slices}
-use Rattle.certificate.specs.Lent.{SameSlices}
+use Rattle.sheet.specs.declared.outputs.Lists.{Lists as Slices}
+use Rattle.sheet.specs.Outputs.{SameSlices}
 
 pub same-then : {l k j : Slices} → SameSlices l k → SameSlices k j → SameSlices l j
 same-then a b =

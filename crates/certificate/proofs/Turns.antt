@@ -6,10 +6,11 @@ use Prim.Native.Nat.{ℕ, ◌+◌, ◌<◌}
 use lib.ListN.{length, get_or}
 use lib.Ieee.{Float, nan}
 use Rattle.cdouble.specs.declared.CDouble.{CDouble}
-use Rattle.exact.proofs.Turns.{Turn, first, next}
-use Rattle.certificate.specs.Added.{Lists, with_term, after_terms, with_error, after_errors}
+use Rattle.loops.proofs.Turns.{Turn, first, next}
+use Rattle.certificate.specs.Added.{with_term, after_terms, with_error, after_errors}
 use Rattle.certificate.specs.AddedReads.{TermFits, RowFits, ErrorsFit}
 use Rattle.certificate.proofs.AddedLengths.{Same, after_terms_same, after_terms_few, after_errors_same}
+use Rattle.sheet.specs.Outputs.{Lists}
 
 -- ---- a kept row's entries
 module _ {count : ℕ} (y : CDouble) {columns : List ℕ} {entries : List Float} {l : Lists} (row : RowFits count columns entries l) where

@@ -17,12 +17,13 @@ use Rattle.multipliers.specs.declared.weighing.Multiplier.TheVariants.{Zeroed, D
 use Rattle.std.proofs.Common.{Option, Some, None}
 use Rattle.multipliers.specs.Multipliers.{needs_infinite_side, spreads, weighed}
 use Rattle.certificate.specs.System.{System, error_at, signed_at, multiplier_at, right_side_at, row_columns, row_entries}
-use Rattle.certificate.specs.Added.{Lists, lists, pair_at, with_term, after_terms, kept_into, with_error, after_errors, spread_into, no_sums, summed}
+use Rattle.certificate.specs.Added.{pair_at, with_term, after_terms, kept_into, with_error, after_errors, spread_into, no_sums, summed}
 use Rattle.certificate.specs.Certificate.{Certificate, certificate, with_row, after_rows, empty, combined, over, lists_over, written}
 use Rattle.certificate.specs.AddedReads.{Long, Within}
 use Rattle.certificate.specs.Reads.{RowsGoOn, CertificateFits}
 use Rattle.certificate.proofs.AddedLengths.{Same, after_terms_same, after_errors_same, long_same}
 use Rattle.certificate.proofs.Lengths.{after_rows_same, lent_same}
+use Rattle.sheet.specs.Outputs.{Lists, lists}
 
 -- ---- lists with more places beyond
 abbrev pub beyond : Lists → Lists → Lists

@@ -7,21 +7,13 @@ use Rattle.doubles.specs.Compare.{absolute}
 use Rattle.cdouble.specs.declared.CDouble.{CDouble}
 use Rattle.cdouble.specs.Compensated.{◌⊕◌, ◌⊗◌, pair, plus_scaled, plus_zero, value}
 use Rattle.questions.specs.Flags.{is_set}
+use Rattle.sheet.specs.Outputs.{Lists, lists}
 use Rattle.multipliers.specs.declared.weighing.Multiplier.{Multiplier}
 use Rattle.multipliers.specs.declared.weighing.Multiplier.TheVariants.{Zeroed, Dropped, Kept}
 use Rattle.certificate.specs.declared.adding.Sums.{Sums}
 
 -- ---- per variable: its coefficient's two parts, the magnitude that was summed, and how many terms
-pub record Lists : Type 0 where
-  pub high : List Float
-  pub low : List Float
-  pub magnitudes : List Float
-  pub terms : List ℕ
-
-abbrev pub lists : List Float → List Float → List Float → List ℕ → Lists
-lists high low magnitudes terms = record { high = high; low = low; magnitudes = magnitudes; terms = terms }
-
--- a variable's coefficient
+-- its coefficient
 abbrev pub pair_at : List Float → List Float → ℕ → CDouble
 pair_at high low v = pair (get_or high v nan) (get_or low v nan)
 

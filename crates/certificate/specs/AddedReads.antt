@@ -1,6 +1,6 @@
 -- What the code asks of the lent slices for one row. On an accepted sheet it holds. Assumes nothing.
 use Rattle.std.specs.Prelude.{◌≡◌, List, ℕ, ◌+◌, ◌≤◌, ◌<◌, ◌^◌, length, get_or, Float}
-use Rattle.certificate.specs.Added.{Lists}
+use Rattle.sheet.specs.Outputs.{Lists}
 
 -- the lists have a place for each of count variables
 pub record Long (count : ℕ) (l : Lists) : Type 0 where

@@ -5,7 +5,8 @@ use Rattle.cdouble.specs.Compensated.{plus_zero}
 use Rattle.certificate.specs.declared.adding.Sums.{Sums}
 use Rattle.multipliers.specs.Multipliers.{spreads}
 use Rattle.certificate.specs.System.{System, error_at, multiplier_at, right_side_at, row_columns, row_entries}
-use Rattle.certificate.specs.Added.{Lists, lists, kept_into, spread_into, no_sums, summed}
+use Rattle.certificate.specs.Added.{kept_into, spread_into, no_sums, summed}
+use Rattle.sheet.specs.Outputs.{Lists, lists}
 
 -- ---- all of it
 pub record Certificate : Type 0 where

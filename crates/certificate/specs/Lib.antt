@@ -2,5 +2,4 @@ pub mod System
 pub mod Certificate
 pub mod Reads
 pub mod Added
-pub mod Lent
 pub mod AddedReads

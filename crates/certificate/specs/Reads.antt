@@ -1,7 +1,9 @@
 -- What the code asks of the lent slices. On an accepted sheet it holds. Assumes nothing.
 use Rattle.std.specs.Prelude.{◌≡◌, List, ℕ, ◌+◌, ◌≤◌, ◌<◌, ◌^◌, length, get_or, Float}
-use Rattle.certificate.specs.System.{System, row_columns}
-use Rattle.certificate.specs.Added.{Lists}
+use Rattle.multipliers.specs.declared.weighing.Multiplier.{Multiplier}
+use Rattle.multipliers.specs.declared.weighing.Multiplier.TheVariants.{Dropped}
+use Rattle.certificate.specs.System.{System, multiplier_at, row_columns}
+use Rattle.sheet.specs.Outputs.{Lists}
 use Rattle.certificate.specs.Certificate.{Certificate}
 use Rattle.certificate.specs.AddedReads.{Long, Within}
 
@@ -10,20 +12,20 @@ pub record Lent (count : ℕ) (l : Lists) (errors : List Float) : Type 0 where
   pub long : Long count l
   pub in_errors : count ≤ length errors
 
+-- the lent list has the multiplier of each of so many rows
+pub record Weighed (m : System) (rows : ℕ) (list : List Multiplier) : Type 0 where
+  pub long : rows ≤ length list
+  pub at : (r : ℕ) → r < rows → get_or list r Dropped ≡ multiplier_at m r
+
 -- what is read of the row r over count variables
 pub record RowReadable (m : System) (r count : ℕ) : Type 0 where
-  pub slack : m.structurals + r < count
   pub in_starts : r + 1 < length m.starts
   pub rises : get_or m.starts r 0 ≤ get_or m.starts (r + 1) 0
   pub inside : get_or m.starts (r + 1) 0 ≤ length m.columns
   pub same : length m.entries ≡ length m.columns
   pub within : Within count (row_columns m r)
   pub in_right_sides : r < length m.right_sides
-  pub in_mins : count ≤ length m.mins
-  pub in_maxs : count ≤ length m.maxs
   pub in_basic : count ≤ length m.basic
-  pub in_rho_hi : r < length m.rho_hi
-  pub in_rho_lo : r < length m.rho_lo
   pub in_second : r < length m.second
 
 -- the counts after r rows, which have so many entries

@@ -1,34 +1,36 @@
 //! The rows added up, each times its multiplier, into a coefficient for each variable.
-ghost use Rattle.std.specs.Prelude.{◌≡◌, cond, length, replicate, ◌≤◌};
+ghost use Rattle.std.specs.Prelude.{◌≡◌, cond, length, replicate, ◌+◌, ◌≤◌};
 ghost use Rattle.cdouble.specs.Compensated.{plus_zero};
 ghost use Rattle.certificate.specs.Added.{no_sums};
-ghost use Rattle.certificate.specs.Lent.{SameSlices, lent_lists};
+ghost use Rattle.sheet.specs.Outputs.{SameSlices, lent_lists};
 ghost use Rattle.certificate.specs.AddedReads.{Long};
 ghost use Rattle.certificate.specs.System.{lent_system};
 ghost use Rattle.certificate.specs.Certificate.{after_rows, certificate, combined, empty, lists_over, over, with_row, written};
-ghost use Rattle.certificate.specs.Reads.{CertificateFits, RowGoesOn, RowsGoOn};
+ghost use Rattle.certificate.specs.Reads.{CertificateFits, RowGoesOn, RowsGoOn, Weighed};
 
-use crate::{Lists, Sums, keep_row, spread_row, summed};
+use crate::{Sums, keep_row, spread_row, summed};
 use cdouble::CDouble;
 use double_bits::abs;
-use multipliers::{multiplier_at, spreads};
-use sheet::Sheet;
+use multipliers::{Multiplier, spreads};
+use sheet::{Lists, Sheet};
 
 /// The row `r`.
 fn add_row(
     s: &Sheet,
     count: usize,
     estimated: bool,
+    multipliers: &[Multiplier],
     l: &mut Lists,
     errors: &mut [f64],
     r: usize,
     c: Sums,
 ) -> Sums
-    requires { RowGoesOn (lent_system s.now estimated) r count (certificate (lent_lists l.old) errors.old c) }
+    requires weighed { Weighed (lent_system s.now estimated) (r + 1) multipliers.now }
+    requires goes_on { RowGoesOn (lent_system s.now estimated) r count (certificate (lent_lists l.old) errors.old c) }
     ensures same_slices { SameSlices l.old l.new }
     ensures value { certificate (lent_lists l.new) errors.new result ≡ with_row (lent_system s.now estimated) r (certificate (lent_lists l.old) errors.old c) }
 {
-    let m = multiplier_at(s, estimated, r);
+    let m = multipliers[r];
     let spread = spreads(estimated, abs(s.second[r]), m);
     let start = s.starts[r];
     let end = s.starts[r + 1];
@@ -40,8 +42,16 @@ fn add_row(
 }
 
 /// The rows in ascending order.
-fn add_rows(s: &Sheet, count: usize, estimated: bool, l: &mut Lists, errors: &mut [f64]) -> Sums
-    requires { RowsGoOn (lent_system s.now estimated) s.now.rows count (lent_lists l.old) errors.old }
+fn add_rows(
+    s: &Sheet,
+    count: usize,
+    estimated: bool,
+    multipliers: &[Multiplier],
+    l: &mut Lists,
+    errors: &mut [f64],
+) -> Sums
+    requires weighed { Weighed (lent_system s.now estimated) s.now.rows multipliers.now }
+    requires go_on { RowsGoOn (lent_system s.now estimated) s.now.rows count (lent_lists l.old) errors.old }
     ensures same_slices { SameSlices l.old l.new }
     ensures value { certificate (lent_lists l.new) errors.new result ≡ after_rows (lent_system s.now estimated) s.now.rows (certificate (lent_lists l.old) errors.old no_sums) }
 {
@@ -54,7 +64,7 @@ fn add_rows(s: &Sheet, count: usize, estimated: bool, l: &mut Lists, errors: &mu
     };
     // Kept: `r` goes to several lists of the sheet at once.
     for r in 0..s.rows {
-        c = add_row(s, count, estimated, l, errors, r, c);
+        c = add_row(s, count, estimated, multipliers, l, errors, r, c);
     }
     c
 }
@@ -92,19 +102,21 @@ fn clear_errors(estimated: bool, count: usize, errors: &mut [f64])
 }
 
 // Kept: `estimated` is apart from the sheet, from which it is worked out once; a struct of both would be taken apart in each function.
-/// The certificate of the sheet's rows over `count` variables, its lists written to the first `count` places.
+/// The certificate of the sheet's rows, each with its multiplier, over `count` variables, its lists written to the first `count` places.
 pub fn certificate(
     s: &Sheet,
     count: usize,
     estimated: bool,
+    multipliers: &[Multiplier],
     l: &mut Lists,
     errors: &mut [f64],
 ) -> Sums
-    requires { CertificateFits (lent_system s.now estimated) s.now.rows count (lent_lists l.old) errors.old }
+    requires weighed { Weighed (lent_system s.now estimated) s.now.rows multipliers.now }
+    requires fits { CertificateFits (lent_system s.now estimated) s.now.rows count (lent_lists l.old) errors.old }
     ensures same_slices { SameSlices l.old l.new }
     ensures value { certificate (lent_lists l.new) errors.new result ≡ written estimated count (combined (lent_system s.now estimated) s.now.rows count) (lent_lists l.old) errors.old }
 {
     clear_lists(count, l);
     clear_errors(estimated, count, errors);
-    add_rows(s, count, estimated, l, errors)
+    add_rows(s, count, estimated, multipliers, l, errors)
 }

@@ -1,13 +1,13 @@
 //! A kept row, times its multiplier, added to the coefficients.
 ghost use Rattle.std.specs.Prelude.{◌≡◌, length};
 ghost use Rattle.certificate.specs.Added.{after_terms, kept_into, with_term};
-ghost use Rattle.certificate.specs.Lent.{SameSlices, lent_lists};
+ghost use Rattle.sheet.specs.Outputs.{SameSlices, lent_lists};
 ghost use Rattle.certificate.specs.AddedReads.{RowFits, TermFits};
 
-use crate::Lists;
 use cdouble::CDouble;
 use double_bits::abs;
 use multipliers::Multiplier;
+use sheet::Lists;
 
 /// One entry of a kept row, `a` of the variable `v`.
 fn add_term(y: CDouble, v: usize, a: f64, l: &mut Lists)

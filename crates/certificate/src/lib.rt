@@ -5,9 +5,7 @@
 mod adding;
 mod combine;
 mod kept_terms;
-mod lent;
 
 pub use adding::{Sums, spread_row, summed};
 pub use combine::certificate;
 pub use kept_terms::keep_row;
-pub use lent::Lists;

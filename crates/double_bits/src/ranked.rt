@@ -2,10 +2,7 @@
 ghost use Rattle.std.specs.Prelude.{◌≡◌, true, false, ◌≤◌};
 ghost use Rattle.rank_arithmetic.specs.Rank.{double, infinity};
 
-pub use rank_arithmetic::INFINITY;
-
-/// The bit pattern of -0, in which only the sign is set.
-pub const SIGN: u64 = f64::to_bits(-0.0);
+pub use rank_arithmetic::{INFINITY, SIGN};
 
 // Kept: `positive` and `negative` as one function, `double::<true>(r)`, would hide the sign that the names say, for two lines less.
 

@@ -117,7 +117,7 @@ finite_bits nan t = absurd t
 finite_bits (inf s) t = absurd t
 finite_bits (fin s m e) t = let n = m * up e * 2 ^ 1074 / down e in add_assoc (cond s (2 ^ 63) 0) ((size n - 53) * 2 ^ 52) (n / 2 ^ (size n - 53))
 
-infinity-value : at_rank 52 infinity ≡ 2 ^ 2098
+pub infinity-value : at_rank 52 infinity ≡ 2 ^ 2098
 infinity-value = at_rank_form 52 2046 (2 ^ 52) (inr (le_refl (2 ^ 52))) (lit< tt)
 
 finite_less : (x : Float) → T (finite x) → T (fits binary64 x) → rank_of x < infinity

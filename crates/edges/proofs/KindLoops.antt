@@ -1,44 +1,21 @@
--- What the passes over the widened list and over the basis places find, on lists. Assumes nothing.
+-- What the pass over the basis places finds, on lists. Assumes nothing.
 use native.Mathlib.Omega.{arith}
-use native.Mathlib.Numerals.{add-one}
-use mathlib.Core.Path.{◌≡◌, refl, ap, sym, ◌∙◌}
+use mathlib.Core.Path.{◌≡◌, refl, ap, ◌∙◌}
 use mathlib.Core.Logic.{inl, inr}
-use mathlib.Core.Bool.{Bool, true, false, cond, ◌&&◌, beq}
+use mathlib.Core.Bool.{Bool, true, false, cond, ◌&&◌}
 use mathlib.Core.List.{List}
 use Prim.Native.Nat.{ℕ, zero, suc, ◌+◌, ◌<◌, ◌≤◌}
 use borrow.Author.Tests.{ltb-false}
 use lib.Dec.{eqb, ltb}
-use lib.ListN.{length, take}
-use lib.Seq.{take_all}
+use lib.ListN.{length}
 use Rattle.std.proofs.Common.{Option, Some, None, unwrap_or}
-use Rattle.std.specs.List.{list_any, zip, position_or_len}
-use Rattle.std.proofs.lemmas.List.Folds.{list_any_more}
+use Rattle.std.specs.List.{zip, position_or_len}
 use Rattle.std.proofs.lemmas.List.Sums.{position_or_len_is}
 use Rattle.std.proofs.lemmas.Slice.Zip.{length-zip, get_or-zip}
 use Rattle.exact.proofs.Naturals.{le_or_lt}
 use Rattle.questions.specs.Flags.{is_set}
-use Rattle.questions.specs.BasisPlaces.{holds_place, widened_among}
-use Rattle.edges.specs.Variables.{is_widened, holder_from}
-
--- ---- the widened list
-abbrev pub matches : ℕ → Bool → ℕ × ℕ → Bool
-matches v up item = eqb item.0 v && beq (is_set item.1) up
-
-module _ (vars ups : List ℕ) (v : ℕ) (up : Bool) (same : length ups ≡ length vars) where
-  among : (n : ℕ) → n ≤ length vars → list_any (matches v up) (take n (zip vars ups)) ≡ widened_among vars ups n v up
-  unfolding widened_among
-  among zero within = refl
-  among (suc n) within =
-      rw (
-        ← (add-one n),
-        list_any_more (matches v up) (zip vars ups) n (0, 0) (omega (arith, length-zip vars ups)),
-        among n (omega arith),
-        get_or-zip vars ups n (0, 0) (omega arith) (omega arith),
-      )
-      refl
-
-  pub any_widened : list_any (matches v up) (zip vars ups) ≡ is_widened vars ups v up
-  any_widened = ap (list_any (matches v up)) (sym (take_all (length vars) (zip vars ups) (omega (arith, length-zip vars ups)))) ∙ among (length vars) (omega arith)
+use Rattle.questions.specs.BasisPlaces.{holds_place}
+use Rattle.edges.specs.Variables.{holder_from}
 
 -- ---- the basis places
 from_position : (n len : ℕ) {r : Option ℕ} → r ≡ cond (ltb n len) (Some n) None → n ≤ len → unwrap_or r len ≡ n

@@ -25,8 +25,9 @@ use Rattle.cdouble.proofs.RoundedUp.{exact-zero, zero-fits}
 use Rattle.sheet.specs.Sheet.{Sheet, variables, Doubles}
 use Rattle.questions.specs.Rows.{part, RowsLie}
 use Rattle.questions.specs.BasisPlaces.{holds_place}
+use Rattle.questions.specs.WidenedList.{is_widened}
 use Rattle.sheet.specs.Answers.{Accepted}
-use Rattle.sheet.proofs.Accepted.{AllYes, all_yes, rows_lie}
+use Rattle.sheet.proofs.Accepted.{AllYes, SizesHold, all_yes, rows_lie, sizes_hold}
 use Rattle.sheet.proofs.Consequences.{Plain, lengths, by_variable, by_row, range_at_lem, low_plain, high_plain, feasibility_plain, scale_plain, product_finite, Holds, holder, one_holder, leaving_lt}
 use Rattle.tolerances.specs.Tolerances.{toward, slack_margin, slack_tol}
 use Rattle.tolerances.specs.BandEdge.{band_edge}
@@ -35,9 +36,9 @@ use Rattle.tolerances.proofs.BandEdge.{band_edge_law, band_edge-fits}
 use Rattle.edges.specs.declared.activity.Activity.{Activity}
 use Rattle.edges.specs.Model.{model_of, bound_of, tols_of}
 use Rattle.edges.specs.Activity.{activity, with_entry, after_entries, row_activity, row_terms, slack_room}
-use Rattle.edges.specs.Rooms.{slack_room_at, widening_room}
+use Rattle.edges.specs.Rooms.{rooms, slack_room_at, widening_room}
 use Rattle.edges.specs.Edges.{leaving_variable, edge, low_edge, high_edge}
-use Rattle.edges.specs.Variables.{is_widened, holds_on_bounds, holder_from}
+use Rattle.edges.specs.Variables.{holds_on_bounds, holder_from}
 use Rattle.edges.specs.RoomReads.{RowReadable, Readable}
 
 -- ---- what is to hold of an edge, whichever way it is chosen
@@ -127,6 +128,9 @@ module _ (s : Sheet) (accepted : Accepted s) where
   all : AllYes s
   all = all_yes s accepted
 
+  sizes : SizesHold s.rows s.structurals s.entry_count
+  sizes = sizes_hold s.rows s.structurals s.entry_count all.sizes_are_fine
+
   lie : RowsLie s.rows s.entry_count s.starts
   lie = rows_lie s.rows s.entry_count s.starts all.starts_are_fine (by_row s all).starts_long
 
@@ -144,6 +148,7 @@ module _ (s : Sheet) (accepted : Accepted s) where
   pub readable : (v : ℕ) → v < variables s → Readable (model_of s) v
   readable v less =
       record {
+        has_mark = omega (arith, sizes.rows_most, sizes.structurals_most);
         in_mins = omega (arith, (by_variable s all).mins_long);
         in_maxs = omega (arith, (by_variable s all).maxs_long);
         in_low = omega (arith, (by_variable s all).low_long);
@@ -153,7 +158,6 @@ module _ (s : Sheet) (accepted : Accepted s) where
         maximums = omega (arith, (by_variable s all).maxs_long);
         values_long = omega (arith, (by_variable s all).values_long);
         entries_long = (by_row s all).entries_long ∙ sym (by_row s all).columns_long;
-        widened_long = (lengths s all).widened_long;
         row = λ slack. row_readable (v - s.structurals) (omega arith);
       }
 
@@ -192,15 +196,23 @@ module _ (s : Sheet) (accepted : Accepted s) (doubles : Doubles s) where
   tolerance_room v less true = plain_room (get_or s.high_tolerances v nan) (doubles.high_fit.fit_at v) (high_plain s (all s accepted) v less)
   tolerance_room v less false = plain_room (get_or s.low_tolerances v nan) (doubles.low_fit.fit_at v) (low_plain s (all s accepted) v less)
 
+  same_rooms : (room : Float) → RoomHolds room → (up : Bool) → RoomHolds (toward (rooms room room) up)
+  unfolding toward
+  same_rooms room h true = h
+  same_rooms room h false = h
+
   -- 0 where the item is widened, else a tolerance or what `slack_room` answers
   pub room_law : (v : ℕ) → v < variables s → (up : Bool) → RoomHolds (widening_room (model_of s) v up)
   unfolding widening_room le lt eq
-  room_law v less up = go (is_widened s.widened_variables s.widened_ups v up) (ltb v s.structurals) refl
+  room_law v less up = go (is_widened s.widened v up) (ltb v s.structurals) refl
     where
-      go : (b t : Bool) → ltb v s.structurals ≡ t → RoomHolds (cond b plus_zero (cond t (toward (tols_of (model_of s) v) up) (slack_room_at (model_of s) (v - s.structurals))))
+      room : Float
+      room = slack_room_at (model_of s) (v - s.structurals)
+
+      go : (b t : Bool) → ltb v s.structurals ≡ t → RoomHolds (cond b plus_zero (toward (cond t (tols_of (model_of s) v) (rooms room room)) up))
       go true t e = (zero-fits, tt, tt)
       go false true e = tolerance_room v less up
-      go false false e = slack_room_lem (v - s.structurals) (omega (arith, ltb-false v s.structurals e))
+      go false false e = same_rooms room (slack_room_lem (v - s.structurals) (omega (arith, ltb-false v s.structurals e))) up
 
   -- ---- edges
   module _ (leaving v : ℕ) (less : v < variables s) (up : Bool) where

@@ -3,4 +3,3 @@ pub mod Laws
 pub mod KindLoops
 pub mod RowLoops
 pub mod Pairs
-pub mod RoomTests

@@ -5,7 +5,7 @@ use Prim.Native.Nat.{ℕ}
 use borrow.Author.Tests.{not-true, not-false, eq-eqb, ne_eqb}
 use lib.Ieee.{Float}
 use lib.Ieee.Scale.{finite}
-use Rattle.cdouble.proofs.Contracts.{when_true, when_false}
+use Rattle.loops.proofs.Branches.{when_true, when_false}
 use Rattle.tolerances.specs.Tolerances.{toward}
 use Rattle.tolerances.specs.BandEdge.{band_edge}
 use Rattle.edges.specs.Model.{Model, bound_of, tols_of}

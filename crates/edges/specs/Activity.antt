@@ -5,6 +5,7 @@ use Rattle.doubles.specs.Compare.{absolute}
 use Rattle.cdouble.specs.Compensated.{◌⊕◌, ◌⊗◌, plus_zero}
 use Rattle.tolerances.specs.Tolerances.{trimmed_room}
 use Rattle.edges.specs.declared.activity.Activity.{Activity}
+use Rattle.edges.specs.Row.{Row}
 
 abbrev pub activity : Float → Float → Activity
 activity lhs magnitude = record { lhs = lhs; magnitude = magnitude }
@@ -30,6 +31,6 @@ abbrev pub row_terms : List ℕ → ℕ
 row_terms columns = length columns - 1
 
 -- "`slack_room(r)`: (slack_tol − slack_margin).max(0), both from tol = feasibility times scale, the magnitude of `row_activity` and `row_terms`", of one row
-unfoldable pub slack_room : ℕ → Float → Float → Float → List ℕ → List Float → List Float → Float
-slack_room structurals feasibility right_side scale columns entries values =
-    trimmed_room (feasibility ⊗ scale) (row_activity structurals right_side columns entries values).magnitude (row_terms columns)
+unfoldable pub slack_room : ℕ → Float → Row → List Float → Float
+slack_room structurals feasibility row values =
+    trimmed_room (feasibility ⊗ row.scale) (row_activity structurals row.right_side row.columns row.entries values).magnitude (row_terms row.columns)

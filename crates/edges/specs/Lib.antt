@@ -1,7 +1,8 @@
 pub mod Edges
 pub mod Variables
 pub mod Activity
-pub mod Mentioned
 pub mod RoomReads
 pub mod Rooms
+pub mod Row
 pub mod Model
+pub mod Ranges

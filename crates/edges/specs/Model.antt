@@ -1,6 +1,10 @@
--- What of the sheet a variable's edges rest on: all but the basis, the multipliers and the outputs. Assumes nothing.
+-- What of the sheet a variable's edges rest on: all but the basis, the multipliers and the outputs. The widened list is what it says of each
+-- variable and side: the code has that as marks. Assumes nothing.
 use Rattle.std.specs.Prelude.{Bool, cond, List, ℕ, get_or, Float}
 use Rattle.std.specs.Float.{nan}
+use Rattle.questions.specs.declared.widened.Marks.{Marks}
+use Rattle.questions.specs.Marks.{holds}
+use Rattle.questions.specs.WidenedList.{is_widened}
 use Rattle.sheet.specs.declared.lent.Sheet.{Sheet as Slices}
 use Rattle.sheet.specs.Sheet.{Sheet}
 use Rattle.tolerances.specs.declared.BoundTols.{BoundTols}
@@ -19,12 +23,12 @@ pub record Model : Type 0 where
   pub low_tolerances : List Float
   pub high_tolerances : List Float
   pub values : List Float
-  pub widened_variables : List ℕ
-  pub widened_ups : List ℕ
+  -- whether the widened list holds (v, up)
+  pub widened : ℕ → Bool → Bool
 
 -- the one place where a model is made from what is lent
-abbrev pub model : ℕ → Float → List ℕ → List ℕ → List Float → List Float → List Float → List ℕ → List Float → List Float → List Float → List Float → List Float → List ℕ → List ℕ → Model
-model structurals feasibility starts columns entries right_sides scales integer mins maxs low_tolerances high_tolerances values widened_variables widened_ups =
+abbrev pub model : ℕ → Float → List ℕ → List ℕ → List Float → List Float → List Float → List ℕ → List Float → List Float → List Float → List Float → List Float → (ℕ → Bool → Bool) → Model
+model structurals feasibility starts columns entries right_sides scales integer mins maxs low_tolerances high_tolerances values widened =
     record {
       structurals = structurals;
       feasibility = feasibility;
@@ -39,21 +43,23 @@ model structurals feasibility starts columns entries right_sides scales integer 
       low_tolerances = low_tolerances;
       high_tolerances = high_tolerances;
       values = values;
-      widened_variables = widened_variables;
-      widened_ups = widened_ups;
+      widened = widened;
     }
 
--- that of the lent slices
-abbrev pub lent_model : Slices → Model
-lent_model s =
+-- that of the lent slices and the widened list's marks
+abbrev pub lent_model : Slices → Marks → Model
+lent_model s marks =
     model s.structurals s.feasibility s.starts.now s.columns.now s.entries.now s.right_sides.now s.scales.now s.integer.now s.mins.now s.maxs.now
-    s.low_tolerances.now s.high_tolerances.now s.values.now s.widened_variables.now s.widened_ups.now
+    s.low_tolerances.now s.high_tolerances.now s.values.now (holds marks)
 
--- that of a sheet
-abbrev pub model_of : Sheet → Model
-model_of s =
+-- that of a sheet, with its widened list or with anything else that is said of each variable and side
+abbrev pub model_with : Sheet → (ℕ → Bool → Bool) → Model
+model_with s widened =
     model s.structurals s.feasibility s.starts s.columns s.entries s.right_sides s.scales s.integer s.mins s.maxs
-    s.low_tolerances s.high_tolerances s.values s.widened_variables s.widened_ups
+    s.low_tolerances s.high_tolerances s.values widened
+
+abbrev pub model_of : Sheet → Model
+model_of s = model_with s (is_widened s.widened)
 
 -- a variable's bound on the upper or the lower side
 abbrev pub bound_at : List Float → List Float → ℕ → Bool → Float

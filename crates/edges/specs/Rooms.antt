@@ -1,21 +1,29 @@
 -- How far a bound may move out: document 01, "Tolerances and edges". Assumes nothing.
-use Rattle.std.specs.Prelude.{Bool, cond, ℕ, ◌-◌, ltb, get_or, Float}
-use Rattle.std.specs.Float.{nan}
+use Rattle.std.specs.Prelude.{Bool, true, false, cond, ℕ, ◌-◌, ltb, Float}
 use Rattle.cdouble.specs.Compensated.{plus_zero}
-use Rattle.questions.specs.Rows.{part}
+use Rattle.tolerances.specs.declared.BoundTols.{BoundTols}
 use Rattle.tolerances.specs.Tolerances.{toward}
 use Rattle.edges.specs.Model.{Model, tols_of}
+use Rattle.edges.specs.Row.{Row, row_at}
 use Rattle.edges.specs.Activity.{slack_room}
-use Rattle.edges.specs.Variables.{is_widened}
 
--- the room of the slack of the row r
+-- the row r, and the room of its slack
+abbrev pub row_of : Model → ℕ → Row
+row_of m r = row_at m.starts m.columns m.entries m.right_sides m.scales r
+
 abbrev pub slack_room_at : Model → ℕ → Float
-slack_room_at m r =
-    slack_room m.structurals m.feasibility (get_or m.right_sides r nan) (get_or m.scales r nan) (part m.starts r m.columns) (part m.starts r m.entries) m.values
+slack_room_at m r = slack_room m.structurals m.feasibility (row_of m r) m.values
 
--- "`widening_room(var, up)`: 0 if the widened list holds (var, up); else for a structural variable its tolerance toward that side; else `slack_room`"
+-- the rooms of a variable's two bounds where they are not widened: "for a structural variable its tolerance toward that side; else `slack_room`"
+abbrev pub rooms : Float → Float → BoundTols
+rooms low high = record { lo = low; hi = high }
+
+abbrev pub own_rooms : Model → ℕ → BoundTols
+own_rooms m v = cond (ltb v m.structurals) (tols_of m v) (let room = slack_room_at m (v - m.structurals) in rooms room room)
+
+-- "`widening_room(var, up)`: 0 if the widened list holds (var, up)", else its own; and of both bounds
 unfoldable pub widening_room : Model → ℕ → Bool → Float
-widening_room m v up =
-    cond (is_widened m.widened_variables m.widened_ups v up) plus_zero
-    (cond (ltb v m.structurals) (toward (tols_of m v) up)
-    (slack_room_at m (v - m.structurals)))
+widening_room m v up = cond (m.widened v up) plus_zero (toward (own_rooms m v) up)
+
+abbrev pub widening_rooms : Model → ℕ → BoundTols
+widening_rooms m v = rooms (widening_room m v false) (widening_room m v true)

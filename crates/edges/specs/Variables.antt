@@ -1,13 +1,9 @@
--- Which variables are widened, integer, kept on their bounds, or hold a basis place: document 01, "Tolerances and edges". Assumes nothing.
-use Rattle.std.specs.Prelude.{Bool, cond, ◌&&◌, ◌||◌, List, ℕ, zero, suc, ltb, length, get_or, Float}
+-- Which variables are integer, kept on their bounds, or hold a basis place: document 01, "Tolerances and edges". Assumes nothing.
+use Rattle.std.specs.Prelude.{Bool, cond, ◌&&◌, ◌||◌, List, ℕ, zero, suc, ltb, get_or, Float}
 use Rattle.std.specs.Float.{nan}
 use Rattle.std.specs.Float.Ieee.{eq}
 use Rattle.questions.specs.Flags.{is_set}
-use Rattle.questions.specs.BasisPlaces.{holds_place, widened_among}
-
--- whether the widened list holds (v, up)
-abbrev pub is_widened : List ℕ → List ℕ → ℕ → Bool → Bool
-is_widened vars ups v up = widened_among vars ups (length vars) v up
+use Rattle.questions.specs.BasisPlaces.{holds_place}
 
 -- `is_integer`: "Domains Integer and Boolean are both "integer"", slacks are not
 abbrev pub is_integer : ℕ → List ℕ → ℕ → Bool

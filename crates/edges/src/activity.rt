@@ -1,7 +1,9 @@
 //! A row at the sheet's values.
 ghost use Rattle.std.specs.Prelude.{◌≡◌, ◌≤◌, length};
+ghost use Rattle.edges.specs.Row.{lent_row};
 ghost use Rattle.edges.specs.Activity.{row_activity, row_terms, slack_room, with_entry};
 
+use crate::Row;
 use double_bits::abs;
 use tolerances::trimmed_room;
 
@@ -59,22 +61,20 @@ pub fn row_terms(columns: &[usize]) -> usize
     columns.len().saturating_sub(1)
 }
 
-/// How far a row's slack may move past its bound where it is not leaving.
+/// How far the row's slack may move past its bound where it is not leaving.
 #[tactic(auto, unfolding(crate::specs::Activity::slack_room))]
-pub fn slack_room(
-    structurals: usize,
-    feasibility: f64,
-    right_side: f64,
-    scale: f64,
-    columns: &[usize],
-    entries: &[f64],
-    values: &[f64],
-) -> f64
-    requires entries_len { length entries.now ≡ length columns.now }
+pub fn slack_room(structurals: usize, feasibility: f64, row: &Row, values: &[f64]) -> f64
+    requires entries_len { length row.now.entries.now ≡ length row.now.columns.now }
     requires structurals_in_bounds { structurals ≤ length values.now }
-    ensures { result ≡ slack_room structurals feasibility right_side scale columns.now entries.now values.now }
+    ensures { result ≡ slack_room structurals feasibility (lent_row row.now) values.now }
 {
-    let tol = feasibility * scale;
-    let a = row_activity(structurals, right_side, columns, entries, values);
-    trimmed_room(tol, a.magnitude, row_terms(columns))
+    let tol = feasibility * row.scale;
+    let a = row_activity(
+        structurals,
+        row.right_side,
+        row.columns,
+        row.entries,
+        values,
+    );
+    trimmed_room(tol, a.magnitude, row_terms(row.columns))
 }

@@ -1,55 +1,22 @@
-//! Both edges of a variable at once: the widened list and a slack's row are gone through one time for the two.
+//! Both edges of a variable at once: a slack's row is gone through one time for the two.
 ghost use Rattle.std.specs.Prelude.{◌≡◌, cond, false, true};
 ghost use Rattle.std.specs.Float.Ieee.Scale.{finite};
 ghost use Rattle.tolerances.specs.BandEdge.{band_edge};
 ghost use Rattle.edges.specs.Edges.{edge};
-ghost use Rattle.edges.specs.Rooms.{widening_room};
 ghost use Rattle.edges.specs.Model.{lent_model};
 ghost use Rattle.edges.specs.RoomReads.{Readable};
-ghost use Rattle.edges.specs.Mentioned.{mentioned};
 
-use crate::{edge, holds_on_bounds, room_of_row, widening_room};
+use crate::{edge, holds_on_bounds, widening_rooms};
 use double_bits::is_finite;
+use questions::Marks;
 use sheet::Sheet;
 use tolerances::band_edge;
 
-/// What belongs to the low and to the high side.
+/// The ends of a variable's range.
 #[derive(Clone, Copy)]
 pub struct Sides {
     pub low: f64,
     pub high: f64,
-}
-
-/// Whether the widened list has the variable `v`, on either side.
-fn mentioned(vars: &[usize], v: usize) -> bool
-    ensures { result ≡ mentioned vars.now v }
-{
-    vars.contains(&v)
-}
-
-/// How far each bound of `v` may move out where `v` is not leaving.
-#[tactic(auto, using(crate::proofs::Pairs::slack_room_is))]
-fn rooms(s: &Sheet, v: usize) -> Sides
-    requires { Readable (lent_model s.now) v }
-    ensures { (let m = lent_model s.now in (result.low ≡ widening_room m v false) × (result.high ≡ widening_room m v true)) }
-{
-    if mentioned(s.widened_variables, v) {
-        return Sides {
-            low: widening_room(s, v, false),
-            high: widening_room(s, v, true),
-        };
-    }
-    if v < s.structurals {
-        return Sides {
-            low: s.low_tolerances[v],
-            high: s.high_tolerances[v],
-        };
-    }
-    let room = room_of_row(s, v - s.structurals);
-    Sides {
-        low: room,
-        high: room,
-    }
 }
 
 /// The bound moved out by its room; an infinite one stays.
@@ -65,14 +32,14 @@ fn moved(bound: f64, room: f64, up: bool) -> f64
 
 /// The low and the high edge of `v`.
 #[tactic(auto, using(crate::proofs::Pairs::held_edge, crate::proofs::Pairs::moved_edge))]
-pub fn both_edges(s: &Sheet, leaving: usize, v: usize) -> Sides
-    requires { Readable (lent_model s.now) v }
-    ensures { (let m = lent_model s.now in (result.low ≡ edge m leaving v false) × (result.high ≡ edge m leaving v true)) }
+pub fn both_edges(s: &Sheet, marks: &Marks, leaving: usize, v: usize) -> Sides
+    requires { Readable (lent_model s.now marks.now) v }
+    ensures { (let m = lent_model s.now marks.now in (result.low ≡ edge m leaving v false) × (result.high ≡ edge m leaving v true)) }
 {
     if v == leaving {
         return Sides {
-            low: edge(s, leaving, v, false),
-            high: edge(s, leaving, v, true),
+            low: edge(s, marks, leaving, v, false),
+            high: edge(s, marks, leaving, v, true),
         };
     }
     let min = s.mins[v];
@@ -83,8 +50,8 @@ pub fn both_edges(s: &Sheet, leaving: usize, v: usize) -> Sides
             high: max,
         };
     }
-    let room = rooms(s, v);
-    let low = moved(min, room.low, false);
-    let high = moved(max, room.high, true);
+    let rooms = widening_rooms(s, marks, v);
+    let low = moved(min, rooms.lo, false);
+    let high = moved(max, rooms.hi, true);
     Sides { low, high }
 }

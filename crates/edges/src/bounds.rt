@@ -1,28 +1,25 @@
-//! The bounds of a variable, and its tolerances toward them.
+//! The bounds of a variable, and its tolerances at them.
 ghost use Rattle.std.specs.Prelude.{◌≡◌, ◌<◌, length};
-ghost use Rattle.tolerances.specs.Tolerances.{toward};
-ghost use Rattle.edges.specs.Model.{bound_of, lent_model, tols_of};
+ghost use Rattle.edges.specs.Model.{bound_at, tols_at};
 
-use sheet::Sheet;
 use tolerances::BoundTols;
 
-// Kept: facts such as `Readable` stand in each contract: a lent sheet is unchecked, so no type of it can carry what the questions show.
+// Kept: facts such as these two stand in each contract: a lent sheet is unchecked, so no type of it can carry what the questions show.
 /// The bound of `v` on this side.
-pub fn bound_of(s: &Sheet, v: usize, up: bool) -> f64
-    requires { (v < length s.now.mins.now) × (v < length s.now.maxs.now) }
-    ensures { result ≡ bound_of (lent_model s.now) v up }
+pub fn bound_of(mins: &[f64], maxs: &[f64], v: usize, up: bool) -> f64
+    requires { (v < length mins.now) × (v < length maxs.now) }
+    ensures { result ≡ bound_at mins.now maxs.now v up }
 {
-    if up { s.maxs[v] } else { s.mins[v] }
+    if up { maxs[v] } else { mins[v] }
 }
 
-/// The tolerance of `v` toward this side.
-pub fn tolerance_of(s: &Sheet, v: usize, up: bool) -> f64
-    requires { (v < length s.now.low_tolerances.now) × (v < length s.now.high_tolerances.now) }
-    ensures { result ≡ toward (tols_of (lent_model s.now) v) up }
+/// The tolerances of `v`.
+pub fn tolerances_of(low: &[f64], high: &[f64], v: usize) -> BoundTols
+    requires { (v < length low.now) × (v < length high.now) }
+    ensures { result ≡ tols_at low.now high.now v }
 {
-    let tols = BoundTols {
-        lo: s.low_tolerances[v],
-        hi: s.high_tolerances[v],
-    };
-    tols.toward(up)
+    BoundTols {
+        lo: low[v],
+        hi: high[v],
+    }
 }

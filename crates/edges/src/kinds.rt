@@ -1,17 +1,6 @@
-//! Whether a variable is widened, integer, or kept on its bounds, and which one is leaving.
+//! Whether a variable is integer, or kept on its bounds, and which one is leaving.
 ghost use Rattle.std.specs.Prelude.{◌≡◌, ◌≤◌, length};
-ghost use Rattle.edges.specs.Variables.{holder_from, holds_on_bounds, is_integer, is_widened};
-
-/// Whether the widened list holds the variable `v` on this side.
-// Kept: its variables and its sides are two lists, since the C interface lends them so.
-pub fn is_widened(vars: &[usize], ups: &[u8], v: usize, up: bool) -> bool
-    requires { length ups.now ≡ length vars.now }
-    ensures { result ≡ is_widened vars.now ups.now v up }
-{
-    vars.iter()
-        .zip(ups)
-        .any(|(variable, side)| *variable == v && (*side != 0) == up)
-}
+ghost use Rattle.edges.specs.Variables.{holder_from, holds_on_bounds, is_integer};
 
 /// Whether `v` is an integer structural variable.
 pub fn is_integer(structurals: usize, integer: &[u8], v: usize) -> bool

@@ -12,4 +12,3 @@ pub mod Digits
 pub mod Operations
 pub mod Between
 pub mod Signs
-pub mod Turns

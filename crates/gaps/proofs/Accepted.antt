@@ -9,11 +9,11 @@ use lib.ListN.{length, get_or, drop}
 use lib.Seq.{get_or-take, get_or-drop}
 use lib.Ieee.{Float, nan, inf, fin, le, lt, eq}
 use lib.Ieee.Scale.{finite}
-use Rattle.questions.specs.Places.{all_below}
+use Rattle.loops.specs.Places.{all_below}
 use Rattle.questions.specs.Rows.{part}
 use Rattle.questions.specs.Questions.{all_finite}
 use Rattle.questions.specs.RowQuestions.{slack_entry_fine_at, entries_fine}
-use Rattle.questions.proofs.All.{each}
+use Rattle.loops.proofs.All.{each}
 use Rattle.sheet.specs.Sheet.{Sheet, variables, Doubles}
 use Rattle.sheet.specs.Answers.{Accepted}
 use Rattle.sheet.proofs.Accepted.{AllYes, all_yes}

@@ -16,8 +16,8 @@ use Rattle.doubles.specs.Directed.{product_with, sum_down, sum_up, round_down, r
 use Rattle.doubles.proofs.Zero.{exact-with_zero, finite-with_zero}
 use Rattle.doubles.proofs.Bounding.{product_finite}
 use Rattle.cdouble.specs.declared.CDouble.{CDouble}
-use Rattle.questions.specs.Places.{all_below}
-use Rattle.questions.proofs.All.{all_same}
+use Rattle.loops.specs.Places.{all_below}
+use Rattle.loops.proofs.All.{all_same}
 use Rattle.multipliers.specs.declared.weighing.Multiplier.{Multiplier}
 use Rattle.multipliers.specs.declared.weighing.Multiplier.TheVariants.{Zeroed, Dropped, Kept}
 use Rattle.gaps.specs.Rows.{Rows, Ranges, KeptRows, finite_parts}
@@ -120,11 +120,13 @@ module _ (kept other : KeptRows) (m n : Rows) (sound : SoundRows m) (rows : Same
 
   -- where all kept parts are finite
   module _ (parts : (r : ℕ) → r < m.count → T (finite_parts (kept r))) where
-    coefficient_same : (sum : Operation) (rounded : ℤ → Float) (v k : ℕ) → k ≤ m.count → coefficient_after sum (product_with rounded) kept m v k ≡ coefficient_after sum (product_with rounded) other n v k
+    coefficient_same : (sum : Operation) (rounded : ℤ → Float) (v k : ℕ) → k ≤ m.count
+        → coefficient_after sum (product_with rounded) kept m v k ≡ coefficient_after sum (product_with rounded) other n v k
     unfolding coefficient_after
     coefficient_same sum rounded v zero h = refl
     coefficient_same sum rounded v (suc k) h =
-        row_same sum rounded (m.columns k) (m.entries k) (n.entries k) v (sound.entry-finite k h) (λ j less. sym (rows.entries_agree k h j less)) (coefficient_same sum rounded v k (omega arith)) (kept k) (other k) (same k h) (parts k h)
+        row_same sum rounded (m.columns k) (m.entries k) (n.entries k) v (sound.entry-finite k h) (λ j less. sym (rows.entries_agree k h j less))
+        (coefficient_same sum rounded v k (omega arith)) (kept k) (other k) (same k h) (parts k h)
         ∙ ap (λ (columns : List ℕ). with_row sum (product_with rounded) (other k) columns (n.entries k) v (coefficient_after sum (product_with rounded) other n v k)) (sym (rows.columns_same k h))
 
     -- either end of a coefficient
@@ -141,7 +143,8 @@ module _ (kept other : KeptRows) (m n : Rows) (sound : SoundRows m) (rows : Same
     unfolding right_side
     right_side_after zero h = refl
     right_side_after (suc k) h =
-        right_side_row_same (m.right_sides k) (n.right_sides k) (sound.right_side-finite k h) (sym (rows.right_sides_agree k h)) (right_side_after k (omega arith)) (kept k) (other k) (same k h) (parts k h)
+        right_side_row_same (m.right_sides k) (n.right_sides k) (sound.right_side-finite k h) (sym (rows.right_sides_agree k h)) (right_side_after k (omega arith))
+        (kept k) (other k) (same k h) (parts k h)
 
     pub right_side_same : right_side kept m m.count ≡ right_side other n n.count
     right_side_same = right_side_after m.count (le_refl m.count) ∙ ap (right_side other n) (sym rows.count_same)
@@ -151,13 +154,15 @@ module _ (kept other : KeptRows) (m n : Rows) (sound : SoundRows m) (rows : Same
   unfolding outward_gap
   gap_same g =
       let each = parts_finite kept m.count in
-      let ends : all_below m.count (λ r. finite_parts (kept r)) ≡ true → (v : ℕ) → v < m.variables → (cl kept m v ≡ cl other n v) × (cu kept m v ≡ cu other n v) = λ all v less. (cl_same (each all) v, cu_same (each all) v) in
+      let ends : all_below m.count (λ r. finite_parts (kept r)) ≡ true → (v : ℕ) → v < m.variables → (cl kept m v ≡ cl other n v) × (cu kept m v ≡ cu other n v) =
+          λ all v less. (cl_same (each all) v, cu_same (each all) v) in
       where-all (all_below m.count (λ r. finite_parts (kept r))) (inf true)
       (λ all. limits_same (cl kept m) (cu kept m) (cl other n) (cu other n) g m.variables (ends all) ∙ ap (λ (k : ℕ). all_below k (limited_at (cl other n) (cu other n) g)) (sym rows.variables_same))
       (λ all.
       ap₂ difference (right_side_same (each all))
       (largest_same (cl kept m) (cu kept m) (cl other n) (cu other n) g m.variables (ends all) ∙ ap (largest (cl other n) (cu other n) g) (sym rows.variables_same)))
-      ∙ ap (λ (all : Bool). cond (all && all_below n.variables (limited_at (cl other n) (cu other n) g)) (difference (right_side other n n.count) (largest (cl other n) (cu other n) g n.variables)) (inf true)) parts_same
+      ∙ ap (λ (all : Bool). cond (all && all_below n.variables (limited_at (cl other n) (cu other n) g))
+      (difference (right_side other n n.count) (largest (cl other n) (cu other n) g n.variables)) (inf true)) parts_same
     where
       where-all : (all : Bool) {b c : Bool} {x y : Float} (z : Float) → (all ≡ true → b ≡ c) → (all ≡ true → x ≡ y) → cond (all && b) x z ≡ cond (all && c) y z
       where-all true z p q = ap₂ (λ (b : Bool) (x : Float). cond b x z) (p refl) (q refl)

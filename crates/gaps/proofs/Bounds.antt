@@ -15,8 +15,8 @@ use Rattle.exact.specs.Integers.{Σ<}
 use Rattle.exact.proofs.Difference.{all, differences}
 use Rattle.exact.proofs.Sums.{Σ-*}
 use Rattle.cdouble.specs.declared.CDouble.{CDouble}
-use Rattle.questions.specs.Places.{all_below}
-use Rattle.questions.proofs.All.{all_at}
+use Rattle.loops.specs.Places.{all_below}
+use Rattle.loops.proofs.All.{all_at}
 use Rattle.multipliers.specs.declared.weighing.Multiplier.{Multiplier}
 use Rattle.multipliers.specs.declared.weighing.Multiplier.TheVariants.{Zeroed, Dropped, Kept}
 use Rattle.gaps.specs.Rows.{Rows, KeptRows, finite_parts}

@@ -16,7 +16,7 @@ use Rattle.rank_arithmetic.specs.Rank.{rank, rank_down, rank_up}
 use Rattle.doubles.specs.Directed.{round_up, round_down, sum_with, product_with}
 use Rattle.doubles.specs.Compare.{larger}
 use Rattle.cdouble.specs.Compensated.{pair, plus_zero}
-use Rattle.questions.specs.Places.{all_below}
+use Rattle.loops.specs.Places.{all_below}
 use Rattle.multipliers.specs.declared.weighing.Multiplier.TheVariants.{Kept}
 use Rattle.gaps.specs.Rows.{Rows, Ranges, KeptRows, finite_parts}
 use Rattle.gaps.specs.Steps.{after_entries, with_row, coefficient_after, limited, term, with_term, largest, with_right_side, right_side, difference, outward_gap}

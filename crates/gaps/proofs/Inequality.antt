@@ -15,7 +15,7 @@ use Rattle.exact.specs.Integers.{◌≼◌, Σ<}
 use Rattle.exact.proofs.Difference.{all, differences}
 use Rattle.exact.proofs.Ring.{rearrange}
 use Rattle.exact.proofs.Sums.{Σ_ext, Σ_swap, Σ-*, combine}
-use Rattle.questions.specs.Places.{all_below}
+use Rattle.loops.specs.Places.{all_below}
 use Rattle.gaps.specs.Rows.{Rows, Ranges, KeptRows, finite_parts}
 use Rattle.gaps.specs.Points.{Point, in_units, Lies, row_at, missed}
 use Rattle.gaps.specs.ExactGap.{multiplier, entry, coefficient, combined_right_side, value_at, largest_value, less_largest, exact_gap}
@@ -94,11 +94,13 @@ module _ (kept : KeptRows) (m : Rows) (sound : SoundRows m) (p : Point) where
       ∙ ap (λ (z : ℤ). Σ< m.count (λ r. multiplier (kept r) *ℤ exact (m.right_sides r)) *ℤ pos p.denominator -ℤ z) combined-at
 
 -- ---- the inequality
-pub gap_parts : (kept : KeptRows) (m : Rows) (g : Ranges) (z : ℤ) → exact_gap kept m g ≡ some z → (largest : ℤ) × (largest_value kept m g ≡ some largest) × (z ≡ in_units (combined_right_side kept m) -ℤ largest)
+pub gap_parts : (kept : KeptRows) (m : Rows) (g : Ranges) (z : ℤ) → exact_gap kept m g ≡ some z
+    → (largest : ℤ) × (largest_value kept m g ≡ some largest) × (z ≡ in_units (combined_right_side kept m) -ℤ largest)
 unfolding exact_gap
 gap_parts kept m g z e = go (largest_value kept m g) refl (when_some (all_below m.count (λ r. finite_parts (kept r))) (less_largest (combined_right_side kept m) (largest_value kept m g)) z e).1
   where
-    go : (l : Option ℤ) → largest_value kept m g ≡ l → less_largest (combined_right_side kept m) l ≡ some z → (largest : ℤ) × (largest_value kept m g ≡ some largest) × (z ≡ in_units (combined_right_side kept m) -ℤ largest)
+    go : (l : Option ℤ) → largest_value kept m g ≡ l → less_largest (combined_right_side kept m) l ≡ some z
+        → (largest : ℤ) × (largest_value kept m g ≡ some largest) × (z ≡ in_units (combined_right_side kept m) -ℤ largest)
     go none is e = let n : ◌≡◌ {A = ℕ} 0 1 = cc in absurd (omega arith)
     go (some largest) is e = (largest, is, sym (in_some _ _ e))
 

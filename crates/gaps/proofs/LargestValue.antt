@@ -17,8 +17,8 @@ use Rattle.exact.proofs.Order.{≼_refl, ≼_of_≺, ≼_or_≺, ≺_not_≼, *_
 use Rattle.exact.proofs.Compare.{le-exact}
 use Rattle.exact.proofs.Sums.{Σ_ext, Σ-*, Σ_mono}
 use Rattle.cdouble.specs.Compensated.{plus_zero}
-use Rattle.questions.specs.Places.{all_below}
-use Rattle.questions.proofs.All.{all_at}
+use Rattle.loops.specs.Places.{all_below}
+use Rattle.loops.proofs.All.{all_at}
 use Rattle.gaps.specs.Rows.{Rows, Ranges, KeptRows}
 use Rattle.gaps.specs.Points.{Point, in_units, IsBelow, IsAbove, Lies}
 use Rattle.gaps.specs.ExactGap.{coefficient, value_at, taken, taken_at, largest_value}
@@ -90,7 +90,8 @@ module _ (low high : Float) (range : SoundRange low high) where
   has_inner : Has low high (exact (inner low high))
   has_inner = go (finite low) (finite high) (λ t. has_low t) (λ t. has_high t) (λ t. t) (λ t. t)
     where
-      go : (p q : Bool) → (T p → Has low high (exact low)) → (T q → Has low high (exact high)) → (T (finite low) → T p) → (T (finite high) → T q) → Has low high (exact (cond p low (cond q high plus_zero)))
+      go : (p q : Bool) → (T p → Has low high (exact low)) → (T q → Has low high (exact high)) → (T (finite low) → T p) → (T (finite high) → T q)
+          → Has low high (exact (cond p low (cond q high plus_zero)))
       go true q a b f h = a tt
       go false true a b f h = b tt
       go false false a b f h = (λ t. absurd (f t), λ t. absurd (h t))

@@ -19,8 +19,8 @@ use Rattle.doubles.proofs.Rounding.{up_mono}
 use Rattle.doubles.proofs.Bounding.{product_finite}
 use Rattle.cdouble.specs.Compensated.{plus_zero}
 use Rattle.cdouble.proofs.RoundedUp.{zero-fits}
-use Rattle.questions.specs.Places.{all_below}
-use Rattle.questions.proofs.All.{all_at, all_of}
+use Rattle.loops.specs.Places.{all_below}
+use Rattle.loops.proofs.All.{all_at, all_of}
 use Rattle.gaps.specs.Rows.{Rows, Ranges, KeptRows, finite_parts}
 use Rattle.gaps.specs.Sameness.{SameRows, SameKept, Within}
 use Rattle.gaps.specs.Steps.{cl, cu, skipped, limited, limited_at, term, with_term, largest, right_side, difference, outward_gap}
@@ -94,7 +94,8 @@ module _ (l u low high wide_low wide_high_lem : Float) (N : Narrowed l u low hig
         ]
 
     -- so its product with an edge inside is at most one of the wider term
-    product_within : (c edge : Float) → T (finite c) → exact l ≼ exact c → exact c ≼ exact u → (T (finite wide_low) → T (le (product_up c wide_low) wide_term)) → (T (finite wide_high_lem) → T (le (product_up c wide_high_lem) wide_term))
+    product_within : (c edge : Float) → T (finite c) → exact l ≼ exact c → exact c ≼ exact u → (T (finite wide_low) → T (le (product_up c wide_low) wide_term))
+        → (T (finite wide_high_lem) → T (le (product_up c wide_high_lem) wide_term))
         → T (finite edge) → InOrder wide_low edge → InOrder edge wide_high_lem → T (le (product_up c edge) wide_term)
     product_within c edge f p q in_low in_high t o r =
         elim (growing (exact c) p q) [
@@ -112,7 +113,8 @@ module _ (l u low high wide_low wide_high_lem : Float) (N : Narrowed l u low hig
     both_within edge t o r =
         let in_low = low_in_term l u wide_low wide_high_lem l_finite u_finite l_fits u_fits wider in
         let in_high = high_in_term l u wide_low wide_high_lem l_finite u_finite l_fits u_fits wider in
-        (product_within l edge l_finite (≼_refl (exact l)) ends (λ h. (in_low h).0) (λ h. (in_high h).0) t o r, product_within u edge u_finite ends (≼_refl (exact u)) (λ h. (in_low h).1) (λ h. (in_high h).1) t o r)
+        (product_within l edge l_finite (≼_refl (exact l)) ends (λ h. (in_low h).0) (λ h. (in_high h).0) t o r,
+        product_within u edge u_finite ends (≼_refl (exact u)) (λ h. (in_low h).1) (λ h. (in_high h).1) t o r)
 
     term_order : InOrder (term l u low high) wide_term
     term_order =
@@ -147,7 +149,8 @@ difference_is (fin s n e) (fin r k d) t h = refl
 
 -- ---- all variables
 module _ (kept : KeptRows) (m : Rows) (sound : SoundRows m) (parts : (r : ℕ) → r < m.count → T (finite_parts (kept r))) (g h : Ranges)
-    (narrow : SoundRanges m.variables g) (wide : SoundRanges m.variables h) (within : Within m.variables g h) (bounded : (v : ℕ) → v < m.variables → limited_at (cl kept m) (cu kept m) h v ≡ true) where
+    (narrow : SoundRanges m.variables g) (wide : SoundRanges m.variables h) (within : Within m.variables g h)
+    (bounded : (v : ℕ) → v < m.variables → limited_at (cl kept m) (cu kept m) h v ≡ true) where
   narrowed : (v : ℕ) → v < m.variables → Narrowed (cl kept m v) (cu kept m v) (g.low v) (g.high v) (h.low v) (h.high v)
   unfolding limited
   narrowed v less =
@@ -177,7 +180,8 @@ module _ (kept : KeptRows) (m : Rows) (sound : SoundRows m) (parts : (r : ℕ) �
   largest_order zero less = record { first_fits = zero-fits; second_fits = zero-fits; order = le_same plus_zero tt zero-fits }
   largest_order (suc k) less = with_term_order _ _ _ _ _ _ (narrowed k less) _ _ (largest_order k (omega arith))
 
-  difference_order : T (le (difference (right_side kept m m.count) (largest (cl kept m) (cu kept m) h m.variables)) (difference (right_side kept m m.count) (largest (cl kept m) (cu kept m) g m.variables)))
+  difference_order : T (le (difference (right_side kept m m.count) (largest (cl kept m) (cu kept m) h m.variables))
+      (difference (right_side kept m m.count) (largest (cl kept m) (cu kept m) g m.variables)))
   difference_order =
       let b = right_side kept m m.count in
       let B = right_side_bounds kept m sound parts in
@@ -196,14 +200,16 @@ module _ (kept : KeptRows) (m : Rows) (sound : SoundRows m) where
   -- either the steps go through, or the gap is −infinity
   gap_ways : (g : Ranges) → (AllFinite × AllLimited g) ⊎ (outward_gap kept m g ≡ inf true)
   unfolding outward_gap
-  gap_ways g = go (all_below m.count (λ r. finite_parts (kept r))) (all_below m.variables (limited_at (cl kept m) (cu kept m) g)) (difference (right_side kept m m.count) (largest (cl kept m) (cu kept m) g m.variables))
+  gap_ways g = go (all_below m.count (λ r. finite_parts (kept r))) (all_below m.variables (limited_at (cl kept m) (cu kept m) g))
+      (difference (right_side kept m m.count) (largest (cl kept m) (cu kept m) g m.variables))
     where
       go : (a b : Bool) (x : Float) → ((a ≡ true) × (b ≡ true)) ⊎ (cond (a && b) x (inf true) ≡ inf true)
       go true true x = inl (refl, refl)
       go true false x = inr refl
       go false b x = inr refl
 
-  order_where_limited : (g h : Ranges) → SoundRanges m.variables g → SoundRanges m.variables h → Within m.variables g h → AllFinite → AllLimited h → T (le (outward_gap kept m h) (outward_gap kept m g))
+  order_where_limited : (g h : Ranges) → SoundRanges m.variables g → SoundRanges m.variables h → Within m.variables g h
+      → AllFinite → AllLimited h → T (le (outward_gap kept m h) (outward_gap kept m g))
   unfolding outward_gap
   order_where_limited g h narrow wide within all bounded =
       let parts = parts_finite kept m.count all in

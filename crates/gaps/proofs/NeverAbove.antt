@@ -12,8 +12,8 @@ use lib.Ieee.Scale.{finite}
 use Rattle.exact.specs.Value.{sign, exact}
 use Rattle.exact.specs.Integers.{Σ<}
 use Rattle.doubles.specs.Directed.{sum_down}
-use Rattle.questions.specs.Places.{all_below}
-use Rattle.questions.proofs.All.{and_left, and_right, all_at, all_of}
+use Rattle.loops.specs.Places.{all_below}
+use Rattle.loops.proofs.All.{and_left, and_right, all_at, all_of}
 use Rattle.gaps.specs.Rows.{Rows, Ranges, KeptRows, finite_parts}
 use Rattle.gaps.specs.Steps.{cl, cu, limited_at, with_term, largest, right_side, difference, outward_gap}
 use Rattle.gaps.specs.Points.{in_units}
@@ -40,7 +40,8 @@ module _ (kept : KeptRows) (m : Rows) (g : Ranges) (sound : SoundRows m) (ranges
     finite_parts_lem = parts_finite kept m.count parts
 
     at_variable : (v : ℕ) → v < m.variables → T (finite (taken_at kept m g v))
-        × ((sum : Float) (z : ℤ) → Bounds upward 2148 z sum → Bounds upward 2148 (z +ℤ coefficient kept m v *ℤ exact (taken_at kept m g v)) (with_term (cl kept m v) (cu kept m v) (g.low v) (g.high v) sum))
+        × ((sum : Float) (z : ℤ) → Bounds upward 2148 z sum → Bounds upward 2148 (z +ℤ coefficient kept m v *ℤ exact (taken_at kept m g v))
+            (with_term (cl kept m v) (cu kept m v) (g.low v) (g.high v) sum))
     at_variable v less =
         with_term_lem (cl kept m v) (cu kept m v) (g.low v) (g.high v) (coefficient kept m v) (cl_bounds kept m sound finite_parts_lem v) (cu_bounds kept m sound finite_parts_lem v) (ranges v less)
         (all_at (limited_at (cl kept m) (cu kept m) g) m.variables limits v less)

@@ -13,12 +13,13 @@ use Rattle.doubles.specs.Compare.{absolute, larger}
 use Rattle.cdouble.specs.Compensated.{pair, two_sum, normalized, value}
 use Rattle.tolerances.specs.Tolerances.{toward}
 use Rattle.tolerances.specs.BandEdge.{band_start, too_far, turns, band_edge}
-use Rattle.questions.specs.Places.{all_below}
+use Rattle.loops.specs.Places.{all_below}
 use Rattle.questions.specs.Questions.{sizes_fine, all_finite, range_fine, bounds_fine, plain, all_plain, tolerances_fine, leaving_row_fine}
 use Rattle.questions.specs.Rows.{part}
 use Rattle.questions.specs.RowQuestions.{starts_fine, row_columns_fine, columns_fine, slack_entry_fine, entries_fine}
-use Rattle.questions.specs.BasisPlaces.{holders, widened_among}
-use Rattle.questions.specs.PlaceQuestions.{basis_fine, widened_fine}
+use Rattle.questions.specs.BasisPlaces.{holders}
+use Rattle.questions.specs.PlaceQuestions.{basis_fine}
+use Rattle.questions.specs.WidenedList.{widened_fine}
 use Rattle.sheet.specs.Sheet.{Sheet, sheet}
 use Rattle.sheet.specs.Lengths.{rows_fit, variables_fit, outputs_fit, lengths_fit}
 use Rattle.sheet.specs.Answers.{ask, first_no, Accepted}
@@ -49,7 +50,7 @@ abbrev with_tolerances : ℕ → Float → Float → Sheet
 with_tolerances kind low high =
     sheet (record { rows = 1; structurals = 1; entries = 2 }) zero 0 0 0 (record { high = 2; low = 2; magnitudes = 2; terms = 2; errors = 2 })
     (0 ∷ 2 ∷ []) (0 ∷ 1 ∷ []) (one ∷ one ∷ []) (three ∷ []) (one ∷ []) (kind ∷ []) (zero ∷ zero ∷ []) (one ∷ zero ∷ []) (low ∷ low ∷ []) (high ∷ high ∷ [])
-    (0 ∷ 1 ∷ []) (0 ∷ 0 ∷ []) (one ∷ two ∷ []) [] [] (one ∷ []) (zero ∷ []) (zero ∷ [])
+    (0 ∷ 1 ∷ []) (0 ∷ 0 ∷ []) (one ∷ two ∷ []) [] (one ∷ []) (zero ∷ []) (zero ∷ [])
 
 abbrev example : Sheet
 example = with_tolerances 1 zero zero
@@ -72,11 +73,11 @@ unfolding all_below all_finite part starts_fine row_columns_fine columns_fine sl
 rows_ask = tt
 
 unfoldable questions_compute : ⊤
-unfolding rows_ask sizes_fine range_fine bounds_fine plain all_plain tolerances_fine holders basis_fine widened_among widened_fine leaving_row_fine ask first_no
+unfolding rows_ask sizes_fine range_fine bounds_fine plain all_plain tolerances_fine holders basis_fine widened_fine leaving_row_fine ask first_no
 questions_compute = tt
 
 unfoldable ranges_compute : ⊤
-unfolding doubles_compute holder_from holds_on_bounds toward widening_room widened_among band_start too_far turns band_edge edge
+unfolding doubles_compute holder_from holds_on_bounds toward widening_room band_start too_far turns band_edge edge
 ranges_compute = tt
 
 unfoldable kept_computes : ⊤

@@ -18,7 +18,7 @@ use Rattle.doubles.proofs.Choice.{larger_most}
 use Rattle.doubles.proofs.Rounding.{finite_or}
 use Rattle.cdouble.specs.Compensated.{plus_zero}
 use Rattle.cdouble.proofs.RoundedUp.{exact-zero, zero-fits}
-use Rattle.questions.proofs.All.{and_left, and_right}
+use Rattle.loops.proofs.All.{and_left, and_right}
 use Rattle.gaps.specs.Steps.{skipped, unlimited, limited, at_edge, term}
 use Rattle.gaps.proofs.Sound.{SoundRange}
 
@@ -105,7 +105,8 @@ module _ (l u low high : Float) (f : T (finite l)) (k : T (finite u)) (a : T (fi
       let over = is_true (lt plus_zero u) (lt_of plus_zero u tt k zero-fits b (subst (λ (z : ℤ). z ≺ exact u) (sym exact-zero) above)) in
       elim (finite_or false high range.high_no_nan range.high_not_bottom) [
         | inl t ↦ t
-        | inr i ↦ absurd (not_both (lt plus_zero u) (eq high (inf false)) (neither (lt plus_zero u && eq high (inf false)) (lt l plus_zero && eq low (inf true)) (within_limits e n)).0 over (eq_infinite false high i))
+        | inr i ↦ absurd (not_both (lt plus_zero u) (eq high (inf false))
+            (neither (lt plus_zero u && eq high (inf false)) (lt l plus_zero && eq low (inf true)) (within_limits e n)).0 over (eq_infinite false high i))
       ]
 
   pub low_finite : limited l u low high ≡ true → skipped l u ≡ false → exact l ≺ pos 0 → T (finite low)
@@ -113,7 +114,8 @@ module _ (l u low high : Float) (f : T (finite l)) (k : T (finite u)) (a : T (fi
       let under = is_true (lt l plus_zero) (lt_of l plus_zero f tt a zero-fits (subst (λ (z : ℤ). exact l ≺ z) (sym exact-zero) below)) in
       elim (finite_or true low range.low_no_nan range.low_not_top) [
         | inl t ↦ t
-        | inr i ↦ absurd (not_both (lt l plus_zero) (eq low (inf true)) (neither (lt plus_zero u && eq high (inf false)) (lt l plus_zero && eq low (inf true)) (within_limits e n)).1 under (eq_infinite true low i))
+        | inr i ↦ absurd (not_both (lt l plus_zero) (eq low (inf true))
+            (neither (lt plus_zero u && eq high (inf false)) (lt l plus_zero && eq low (inf true)) (within_limits e n)).1 under (eq_infinite true low i))
       ]
 
   pub limited_of : (skipped l u ≡ false → (pos 0 ≺ exact u → T (finite high)) × (exact l ≺ pos 0 → T (finite low))) → limited l u low high ≡ true
@@ -204,9 +206,11 @@ module _ (l u low high : Float) (f : T (finite l)) (k : T (finite u)) (a : T (fi
       (term_ind (λ x. T (le (at_edge l u high) x)) (inr t) (λ p q. absurd (T_not (finite high) t q)) (λ p q. le_same (at_edge l u high) n.no_nan n.fit) (λ p q. (most _ _ (at-number low p) n).1))
 
   -- and what is at least each of them is at least the term
-  pub term_least : (x : Float) → T (finite low) ⊎ T (finite high) → (T (finite low) → T (le (product_up l low) x) × T (le (product_up u low) x)) → (T (finite high) → T (le (product_up l high) x) × T (le (product_up u high) x))
+  pub term_least : (x : Float) → T (finite low) ⊎ T (finite high) → (T (finite low) → T (le (product_up l low) x) × T (le (product_up u low) x))
+      → (T (finite high) → T (le (product_up l high) x) × T (le (product_up u high) x))
       → T (le (term l u low high) x)
   term_least x some at_low at_high =
-      let by : (edge : Float) → T (le (product_up l edge) x) × T (le (product_up u edge) x) → T (le (at_edge l u edge) x) = λ edge h. larger_ind (λ z. T (le z x)) (product_up l edge) (product_up u edge) h.0 h.1 in
+      let by : (edge : Float) → T (le (product_up l edge) x) × T (le (product_up u edge) x) → T (le (at_edge l u edge) x) =
+          λ edge h. larger_ind (λ z. T (le z x)) (product_up l edge) (product_up u edge) h.0 h.1 in
       term_ind (λ z. T (le z x)) some (λ p _. by low (at_low p)) (λ _ q. by high (at_high q))
       (λ p q. larger_ind (λ z. T (le z x)) (at_edge l u low) (at_edge l u high) (by low (at_low p)) (by high (at_high q)))

@@ -8,7 +8,7 @@ use Rattle.std.specs.Float.Ieee.Scale.{finite}
 use Rattle.exact.specs.Value.{exact}
 use Rattle.exact.specs.Integers.{Σ<}
 use Rattle.cdouble.specs.Compensated.{plus_zero}
-use Rattle.questions.specs.Places.{all_below}
+use Rattle.loops.specs.Places.{all_below}
 use Rattle.multipliers.specs.declared.weighing.Multiplier.{Multiplier}
 use Rattle.multipliers.specs.declared.weighing.Multiplier.TheVariants.{Zeroed, Dropped, Kept}
 use Rattle.sheet.specs.Sheet.{Sheet}

@@ -7,7 +7,7 @@ use Rattle.doubles.specs.Compare.{larger}
 use Rattle.doubles.specs.Directed.{sum_up, sum_down, product_up, product_down}
 use Rattle.cdouble.specs.declared.CDouble.{CDouble}
 use Rattle.cdouble.specs.Compensated.{plus_zero}
-use Rattle.questions.specs.Places.{all_below}
+use Rattle.loops.specs.Places.{all_below}
 use Rattle.multipliers.specs.declared.weighing.Multiplier.{Multiplier}
 use Rattle.multipliers.specs.declared.weighing.Multiplier.TheVariants.{Zeroed, Dropped, Kept}
 use Rattle.sheet.specs.Sheet.{Sheet}

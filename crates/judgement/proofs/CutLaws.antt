@@ -7,7 +7,7 @@ use lib.Dec.{leb}
 use lib.Ieee.{Float}
 use lib.Ieee.Scale.{finite}
 use Rattle.cdouble.specs.Compensated.{plus_zero}
-use Rattle.cdouble.proofs.Contracts.{when_false}
+use Rattle.loops.proofs.Branches.{when_false}
 use Rattle.edges.specs.Model.{Model}
 use Rattle.judgement.specs.Cut.{cut_at}
 

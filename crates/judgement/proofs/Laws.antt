@@ -6,7 +6,7 @@ use lib.Ieee.{Float, nan, inf, fin, lt}
 use lib.Ieee.Scale.{finite}
 use Rattle.cdouble.specs.declared.CDouble.{CDouble}
 use Rattle.cdouble.specs.Compensated.{add_up, compensated_error, plus_scaled, value}
-use Rattle.cdouble.proofs.Contracts.{differ}
+use Rattle.loops.proofs.Branches.{differ}
 use Rattle.certificate.specs.declared.adding.Sums.{Sums}
 use Rattle.edges.specs.Model.{Model}
 use Rattle.walk.specs.declared.states.End.{End}

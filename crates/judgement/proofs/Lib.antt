@@ -1,3 +1,4 @@
 pub mod Laws
 pub mod NoRows
 pub mod CutLaws
+pub mod Parts

@@ -14,7 +14,7 @@ use Rattle.multipliers.specs.declared.weighing.Multiplier.TheVariants.{Zeroed, D
 use Rattle.certificate.specs.declared.adding.Sums.{Sums}
 use Rattle.certificate.specs.System.{System, multiplier_at, right_side_at, row_columns, row_entries}
 use Rattle.certificate.specs.Certificate.{Certificate, after_rows, combined, empty, with_row}
-use Rattle.certificate.specs.Added.{Lists, kept_into, pair_at, summed}
+use Rattle.certificate.specs.Added.{kept_into, pair_at, summed}
 use Rattle.edges.specs.Model.{Model}
 use Rattle.walk.specs.declared.states.End.TheVariants.{Through}
 use Rattle.walk.specs.declared.states.Walked.{Walked}
@@ -29,6 +29,7 @@ use Rattle.judgement.specs.declared.weighed.Weight.{Weight}
 use Rattle.judgement.specs.Cut.{cut_at}
 use Rattle.judgement.specs.Gap.{finite_sum, gap_of, gap_sum, weigh, weighed_apart, weighed_plain}
 use Rattle.judgement.specs.Judgement.{judged, judgement}
+use Rattle.sheet.specs.Outputs.{Lists}
 
 -- ---- where no row was kept
 -- the sums that the gap rests on are still 0

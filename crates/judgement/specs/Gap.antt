@@ -46,8 +46,10 @@ weighed_apart sum gap others leavingRoom cut =
 unfoldable pub weighed_plain : Float → Float → Weight
 weighed_plain gap others = weight (lt others gap) others
 
+abbrev pub weighed_finite : CDouble → Float → Float → Float → Float → Weight
+weighed_finite sum gap others leavingRoom cut = cond (lt cut leavingRoom) (weighed_apart sum gap others leavingRoom cut) (weighed_plain gap others)
+
 unfoldable pub weigh : GapSum → Float → Float → Float → Weight
-weigh (Finite sum) others leavingRoom cut =
-    cond (lt cut leavingRoom) (weighed_apart sum (value sum) others leavingRoom cut) (weighed_plain (value sum) others)
+weigh (Finite sum) others leavingRoom cut = weighed_finite sum (value sum) others leavingRoom cut
 weigh Unlimited others leavingRoom cut = weighed_plain (inf true) others
 weigh Spoilt others leavingRoom cut = weighed_plain nan others

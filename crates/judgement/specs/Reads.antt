@@ -1,12 +1,13 @@
 -- What the code asks of the lent slices. On an accepted sheet it holds. Assumes nothing.
 use Rattle.std.specs.Prelude.{List, ℕ, Float}
 use Rattle.certificate.specs.declared.adding.Sums.{Sums}
-use Rattle.certificate.specs.Added.{Lists}
+use Rattle.sheet.specs.Outputs.{Lists}
 use Rattle.edges.specs.Model.{Model}
+use Rattle.walk.specs.Walk.{started}
 use Rattle.walk.specs.Reads.{WalkFits}
 use Rattle.judgement.specs.CutReads.{LeavingFits}
 
 -- a judgement over count variables
 pub record JudgeFits (m : Model) (count leaving : ℕ) (l : Lists) (errors : List Float) (c : Sums) : Type 0 where
-  pub walk_fits : WalkFits m count l errors c
+  pub walk_fits : WalkFits m 0 count l errors (started c)
   pub leaving_fits : LeavingFits m leaving

@@ -2,18 +2,21 @@
 ghost use Rattle.std.specs.Prelude.{◌≡◌};
 ghost use Rattle.edges.specs.Model.{lent_model};
 ghost use Rattle.certificate.specs.Certificate.{certificate};
-ghost use Rattle.certificate.specs.Lent.{lent_lists};
-ghost use Rattle.judgement.specs.Judgement.{judged, judgement};
+ghost use Rattle.sheet.specs.Outputs.{lent_lists};
+ghost use Rattle.walk.specs.Walk.{walk_over};
+ghost use Rattle.judgement.specs.Judgement.{judgement};
 ghost use Rattle.judgement.specs.Reads.{JudgeFits};
-ghost use Rattle.judgement.specs.CutReads.{LeavingFits};
 
-use crate::{cut_at, gap_of, gap_sum, weigh};
+use crate::cut::cut_at;
+use crate::weighed::{GapSum, gap_sum, weighed_finite, weighed_plain};
 use cdouble::{add_up, compensated_error};
-use certificate::{Lists, Sums};
-use sheet::Sheet;
-use walk::{Walked, walk_over};
+use certificate::Sums;
+use questions::Marks;
+use sheet::{Lists, Sheet};
+use walk::{Walked, started, walk_over};
 
 /// The judgement's numbers, and how many rows the certificate combines.
+#[repr(C)]
 #[derive(Clone, Copy)]
 pub struct Proof {
     pub holds: bool,
@@ -25,18 +28,60 @@ pub struct Proof {
     pub rows: usize,
 }
 
-/// The judgement of a walk over all variables.
-#[tactic(auto, unfolding(crate::specs::Judgement::judged))]
-fn judged(s: &Sheet, leaving: usize, c: Sums, walked: Walked) -> Proof
-    requires { LeavingFits (lent_model s.now) leaving }
-    ensures { result ≡ judged (lent_model s.now) leaving c walked }
+/// The walk over all of `count` variables.
+fn walk_all(
+    s: &Sheet,
+    marks: &Marks,
+    count: usize,
+    estimated: bool,
+    leaving: usize,
+    c: Sums,
+    l: &Lists,
+    errors: &[f64],
+) -> Walked
+    requires { JudgeFits (lent_model s.now marks.now) count leaving (lent_lists l.now) errors.now c }
+    ensures { result ≡ walk_over (lent_model s.now marks.now) leaving estimated (certificate (lent_lists l.now) errors.now c) count }
 {
+    let before = started(c);
+    walk_over(s, marks, estimated, leaving, l, errors, 0, count, before)
+}
+
+/// The judgement of a certificate over `count` variables.
+#[tactic(auto, unfolding(crate::specs::Judgement::judged, crate::specs::Judgement::judgement))]
+pub fn judge(
+    s: &Sheet,
+    marks: &Marks,
+    count: usize,
+    estimated: bool,
+    leaving: usize,
+    c: Sums,
+    l: &Lists,
+    errors: &[f64],
+) -> Proof
+    requires { JudgeFits (lent_model s.now marks.now) count leaving (lent_lists l.now) errors.now c }
+    ensures { result ≡ judgement (lent_model s.now marks.now) leaving estimated count (certificate (lent_lists l.now) errors.now c) }
+{
+    let walked = walk_all(s, marks, count, estimated, leaving, c, l, errors);
     let w = walked.walk;
-    let sum = gap_sum(c.beta, w.implied_max, walked.end);
-    let gap = gap_of(sum);
     let sums = compensated_error(w.terms, w.longest, w.magnitude);
-    let cut = cut_at(s, leaving, w.leaving_edge, sums, gap);
-    let weight = weigh(sum, add_up(w.room, sums), w.leaving_room, cut);
+    let others = add_up(w.room, sums);
+    let (gap, cut, weight) = match gap_sum(c.beta, w.implied_max, walked.end) {
+        GapSum::Finite(sum) => {
+            let gap = sum.value();
+            let cut = cut_at(s, leaving, w.leaving_edge, sums, gap);
+            (
+                gap,
+                cut,
+                weighed_finite(sum, gap, others, w.leaving_room, cut),
+            )
+        }
+        GapSum::Unlimited => (
+            f64::NEG_INFINITY,
+            0.0,
+            weighed_plain(f64::NEG_INFINITY, others),
+        ),
+        GapSum::Spoilt => (f64::NAN, 0.0, weighed_plain(f64::NAN, others)),
+    };
     Proof {
         holds: weight.holds,
         gap,
@@ -46,22 +91,4 @@ fn judged(s: &Sheet, leaving: usize, c: Sums, walked: Walked) -> Proof
         multipliers_zeroed: c.zeroed,
         rows: c.rows,
     }
-}
-
-/// The judgement of a certificate over `count` variables.
-#[tactic(auto, unfolding(crate::specs::Judgement::judgement))]
-pub fn judge(
-    s: &Sheet,
-    count: usize,
-    estimated: bool,
-    leaving: usize,
-    c: Sums,
-    l: &Lists,
-    errors: &[f64],
-) -> Proof
-    requires { JudgeFits (lent_model s.now) count leaving (lent_lists l.now) errors.now c }
-    ensures { result ≡ judgement (lent_model s.now) leaving estimated count (certificate (lent_lists l.now) errors.now c) }
-{
-    let walked = walk_over(s, count, estimated, leaving, c, l, errors);
-    judged(s, leaving, c, walked)
 }

@@ -6,6 +6,4 @@ mod cut;
 mod gap;
 mod weighed;
 
-pub use cut::cut_at;
 pub use gap::{Proof, judge};
-pub use weighed::{GapSum, Weight, gap_of, gap_sum, weigh};

@@ -1,6 +1,6 @@
 //! The gap between the combined row's right side and its largest value, and what it is weighed against.
 ghost use Rattle.std.specs.Prelude.{◌≡◌};
-ghost use Rattle.judgement.specs.Gap.{finite_sum, gap_of, gap_sum, weigh, weighed_apart, weighed_plain};
+ghost use Rattle.judgement.specs.Gap.{finite_sum, gap_sum, weighed_apart, weighed_finite, weighed_plain};
 
 use cdouble::{CDouble, add_up};
 use double_bits::is_finite;
@@ -46,21 +46,9 @@ pub fn gap_sum(beta: CDouble, implied_max: CDouble, end: End) -> GapSum
     }
 }
 
-/// The gap as a double.
-#[tactic(auto, unfolding(crate::specs::Gap::gap_of))]
-pub fn gap_of(sum: GapSum) -> f64
-    ensures { result ≡ gap_of sum }
-{
-    match sum {
-        GapSum::Finite(gap) => gap.value(),
-        GapSum::Unlimited => f64::NEG_INFINITY,
-        GapSum::Spoilt => f64::NAN,
-    }
-}
-
 /// The gap against the others' room alone.
 #[tactic(auto, unfolding(crate::specs::Gap::weighed_plain))]
-fn weighed_plain(gap: f64, others: f64) -> Weight
+pub fn weighed_plain(gap: f64, others: f64) -> Weight
     ensures { result ≡ weighed_plain gap others }
 {
     Weight {
@@ -82,16 +70,13 @@ fn weighed_apart(sum: CDouble, gap: f64, others: f64, leaving_room: f64, cut: f6
     }
 }
 
-/// Whether the gap is above every room and the round-off of its sums, and what it is weighed against.
-#[tactic(auto, unfolding(crate::specs::Gap::gap_of, crate::specs::Gap::weigh))]
-pub fn weigh(sum: GapSum, others: f64, leaving_room: f64, cut: f64) -> Weight
-    ensures { result ≡ weigh sum others leaving_room cut }
+/// Whether a finite gap is above every room and the round-off of its sums, and what it is weighed against.
+pub fn weighed_finite(sum: CDouble, gap: f64, others: f64, leaving_room: f64, cut: f64) -> Weight
+    ensures { result ≡ weighed_finite sum gap others leaving_room cut }
 {
-    let gap = gap_of(sum);
-    match sum {
-        GapSum::Finite(pair) if leaving_room > cut => {
-            weighed_apart(pair, gap, others, leaving_room, cut)
-        }
-        GapSum::Finite(_) | GapSum::Unlimited | GapSum::Spoilt => weighed_plain(gap, others),
+    if leaving_room > cut {
+        weighed_apart(sum, gap, others, leaving_room, cut)
+    } else {
+        weighed_plain(gap, others)
     }
 }

@@ -9,25 +9,24 @@ use lib.Dec.{leb}
 use lib.ListN.{length, get_or, length-replicate, get_or-replicate}
 use lib.Ieee.{Float}
 use Rattle.cdouble.specs.Compensated.{plus_zero}
-use Rattle.questions.proofs.All.{each}
+use Rattle.loops.proofs.All.{each}
 use Rattle.sheet.specs.Sheet.{Sheet, variables}
 use Rattle.sheet.specs.Answers.{Accepted}
 use Rattle.sheet.specs.Lengths.{outputs_fit}
 use Rattle.sheet.proofs.Accepted.{AllYes, all_yes, sizes_hold}
 use Rattle.sheet.proofs.Consequences.{lengths, by_row, by_variable}
-use Rattle.edges.specs.Model.{model_of}
+use Rattle.edges.specs.Model.{model_with}
 use Rattle.edges.specs.Edges.{leaving_variable}
 use Rattle.edges.proofs.Laws.{readable, leaving_holds}
-use Rattle.certificate.specs.Added.{Lists}
 use Rattle.certificate.specs.Certificate.{Certificate, empty, combined}
 use Rattle.certificate.specs.Reads.{Lent, RowsGoOn, CertificateFits}
 use Rattle.certificate.proofs.Rows.{rows-counted}
 use Rattle.certificate.proofs.Readable.{lie, rows_with, row_readable}
 use Rattle.judgement.specs.Reads.{JudgeFits}
 use Rattle.certificate.specs.declared.adding.Sums.{Sums}
-use Rattle.sheet.specs.declared.answers.Outputs.{Outputs}
+use Rattle.sheet.specs.declared.outputs.Outputs.{Outputs}
+use Rattle.sheet.specs.Outputs.{Lists, outputs}
 use Rattle.certificate.proofs.Lengths.{after_rows_same, lent_same}
-use Rattle.kept.specs.Kept.{outputs}
 
 module _ (s : Sheet) (accepted : Accepted s) where
   all : AllYes s
@@ -107,14 +106,19 @@ module _ (s : Sheet) (accepted : Accepted s) where
     terms_small =
         omega (arith, (rows-counted empty_goes_on s.rows (omega arith)).terms_few, last_start, small, few_variables, (by_row s all).columns_long)
 
-    -- ---- the judgement
-    pub judge_fits : (l : Lists) (e : List Float) {c : Sums} → Lent (variables s) l e → c ≡ certificate_with.sums_of → JudgeFits (model_of s) (variables s) (leaving_variable s) l e c
-    judge_fits l e long is =
+    -- ---- the judgement, whatever is said of the widened variables
+    pub judge_fits : (widened : ℕ → Bool → Bool) (l : Lists) (e : List Float) {c : Sums} → Lent (variables s) l e → c ≡ certificate_with.sums_of
+        → JudgeFits (model_with s widened) (variables s) (leaving_variable s) l e c
+    judge_fits widened l e long is =
         record {
-          walk_fits = record { readable = readable s accepted; lent = long; small = subst (λ (c : Sums). c.terms + variables s < 2 ^ 64) (sym is) terms_small };
-          leaving_fits =
+          walk_fits =
               record {
-                readable = readable s accepted (leaving_variable s) (leaving_holds s accepted).0;
-                in_values = omega (arith, (leaving_holds s accepted).0, (by_variable s all).values_long);
+                readable = readable s accepted;
+                lent = long;
+                terms_small = let terms = subst (λ (c : Sums). c.terms + variables s < 2 ^ 64) (sym is) terms_small in omega (arith, terms);
+                zero_small = omega (arith, few_variables);
+                bounded_small = omega (arith, few_variables);
               };
+          leaving_fits =
+              (readable s accepted (leaving_variable s) (leaving_holds s accepted).0, omega (arith, (leaving_holds s accepted).0, (by_variable s all).values_long));
         }

@@ -8,10 +8,11 @@ use lib.ListN.{length, get_or, drop, length-replicate, get_or-append}
 use lib.Seq.{get_or-append-add, get_or-drop}
 use Rattle.cdouble.specs.Compensated.{plus_zero}
 use Rattle.sheet.specs.Sheet.{Sheet, variables}
+use Rattle.sheet.specs.Outputs.{Lent}
 use Rattle.certificate.specs.System.{system_of}
 use Rattle.certificate.specs.Certificate.{Certificate, empty, combined, over, written}
 use Rattle.certificate.proofs.Lengths.{after_rows_same}
-use Rattle.kept.specs.Kept.{certificate_of, Lent, filled_in}
+use Rattle.kept.specs.Kept.{certificate_of, filled_in}
 
 -- the certificate has a place for each variable and no more
 pub record Sized (n : ℕ) (c : Certificate) : Type 0 where

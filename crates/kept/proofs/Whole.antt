@@ -8,17 +8,19 @@ use borrow.Author.Tests.{eq-eqb}
 use lib.ListN.{length, get_or, drop, length-append}
 use lib.Ieee.{Float, nan}
 use Rattle.cdouble.specs.Compensated.{plus_zero}
-use Rattle.cdouble.proofs.Contracts.{when_true, when_false}
+use Rattle.loops.proofs.Branches.{when_true, when_false}
 use Rattle.questions.specs.Flags.{is_set}
 use Rattle.sheet.specs.Sheet.{Sheet, variables}
 use Rattle.sheet.specs.Answers.{Accepted, first_no}
-use Rattle.edges.specs.Model.{Model, model_of}
+use Rattle.edges.specs.Model.{Model, model_with}
 use Rattle.edges.specs.Edges.{leaving_variable}
 use Rattle.certificate.specs.declared.adding.Sums.{Sums}
-use Rattle.certificate.specs.System.{System, system_of}
-use Rattle.certificate.specs.Added.{Lists}
+use Rattle.multipliers.specs.declared.weighing.Multiplier.{Multiplier}
+use Rattle.multipliers.specs.declared.weighing.Multiplier.TheVariants.{Dropped}
+use Rattle.loops.proofs.Listed.{length-listed, listed_at}
+use Rattle.certificate.specs.System.{System, system_of, multiplier_at}
 use Rattle.certificate.specs.Certificate.{Certificate, certificate, combined, over, written}
-use Rattle.certificate.specs.Reads.{Lent}
+use Rattle.certificate.specs.Reads.{Lent, Weighed}
 use Rattle.certificate.proofs.Readable.{rows_with}
 use Rattle.walk.specs.declared.states.Coefficient.{Coefficient}
 use Rattle.walk.specs.Step.{coefficient_at, step}
@@ -28,8 +30,9 @@ use Rattle.judgement.specs.Reads.{JudgeFits}
 use Rattle.judgement.specs.Judgement.{judged, judgement}
 use Rattle.sheet.specs.declared.numbers.Refusal.{Refusal}
 use Rattle.sheet.specs.Numbers.{number_of}
+use Rattle.sheet.specs.Outputs.{Lists, outputs, lent, Lent as KeptLent}
 use Rattle.sheet.proofs.RefusalNumbers.{not_zero}
-use Rattle.kept.specs.Kept.{certificate_of, proof_of, outputs, lent, filled_in, after, Lent as KeptLent}
+use Rattle.kept.specs.Kept.{WorkedOut, certificate_of, filled_in, after}
 use Rattle.kept.proofs.Places.{place_written}
 use Rattle.kept.proofs.Fits.{certificate_fits, combined-lent, judge_fits}
 
@@ -84,41 +87,60 @@ module _ (estimated : Bool) {count : ℕ} (c : Certificate) (l : Lists) (e : Lis
         in_errors = errors_long estimated at;
       }
 
--- ---- an accepted sheet, whose error bounds and leaving variable were found
-abbrev with_bounds : Sheet → Bool → System
+-- ---- an accepted sheet, of which this was worked out before
+abbrev pub with_bounds : Sheet → Bool → System
 with_bounds s b = rows_with s b (is_set s.leaving_up)
 
-module _ (s : Sheet) (accepted : Accepted s) (l : Lists) (e : List Float) (lends : s.outputs ≡ outputs l e) (estimated : Bool) {k : Lists} {f : List Float} {c : Sums} where
-  pub judge_asks : (leaving_up : Bool) {leaving : ℕ} → certificate k f c ≡ written estimated (variables s) (combined (rows_with s estimated leaving_up) s.rows (variables s)) l e
-      → leaving ≡ leaving_variable s → JudgeFits (model_of s) (variables s) leaving k f c
-  unfolding written
-  judge_asks leaving_up is leaves =
-      subst (λ (v : ℕ). JudgeFits (model_of s) (variables s) v k f c) (sym leaves)
-      (judge_fits s accepted estimated leaving_up k f
-      (subst (λ (x : Certificate). Lent (variables s) x.lists_of x.errors) (sym is)
-      (written-long estimated (combined (rows_with s estimated leaving_up) s.rows (variables s)) l e (combined-lent s accepted estimated leaving_up)
-      (certificate_fits s accepted l e lends estimated leaving_up).lent.in_errors))
-      (ap (λ (x : Certificate). x.sums_of) is))
+module _ (s : Sheet) {estimated : Bool} {leaving : ℕ} {multipliers : List Multiplier} (found : WorkedOut s estimated leaving multipliers) where
+  -- a row's multiplier stands in the list
+  pub multiplier-found : (r : ℕ) → r < s.rows → get_or multipliers r Dropped ≡ multiplier_at (system_of s) r
+  multiplier-found r less =
+      ap (λ (xs : List Multiplier). get_or xs r Dropped) found.multipliers_are ∙ listed_at s.rows (multiplier_at (system_of s)) Dropped r less
 
-  module _ (bounds : estimated ≡ (system_of s).estimated) (is : certificate k f c ≡ written estimated (variables s) (combined (with_bounds s estimated) s.rows (variables s)) l e) where
+  pub multipliers_long : length multipliers ≡ s.rows
+  multipliers_long = ap length found.multipliers_are ∙ length-listed s.rows (multiplier_at (system_of s))
+
+  pub weighed : Weighed (with_bounds s estimated) s.rows multipliers
+  weighed =
+      record {
+        long = omega (arith, multipliers_long);
+        at = λ r less. multiplier-found r less ∙ ap (λ (b : Bool). multiplier_at (with_bounds s b) r) (sym found.estimated_is);
+      }
+
+  module _ (accepted : Accepted s) (l : Lists) (e : List Float) (lends : s.outputs ≡ outputs l e) {k : Lists} {f : List Float} {c : Sums}
+      (is : certificate k f c ≡ written estimated (variables s) (combined (with_bounds s estimated) s.rows (variables s)) l e) where
+    pub judge_asks : (widened : ℕ → Bool → Bool) → JudgeFits (model_with s widened) (variables s) leaving k f c
+    unfolding written
+    judge_asks widened =
+        let up = is_set s.leaving_up in
+        subst (λ (v : ℕ). JudgeFits (model_with s widened) (variables s) v k f c) (sym found.leaving_is)
+        (judge_fits s accepted estimated up widened k f
+        (subst (λ (x : Certificate). Lent (variables s) x.lists_of x.errors) (sym is)
+        (written-long estimated (combined (with_bounds s estimated) s.rows (variables s)) l e (combined-lent s accepted estimated up)
+        (certificate_fits s accepted l e lends estimated up).lent.in_errors))
+        (ap (λ (x : Certificate). x.sums_of) is))
+
     writes : certificate k f c ≡ written (system_of s).estimated (variables s) (certificate_of s) l e
     unfolding certificate_of
-    writes = is ∙ ap (λ (b : Bool). written b (variables s) (combined (with_bounds s b) s.rows (variables s)) l e) bounds
+    writes = is ∙ ap (λ (b : Bool). written b (variables s) (combined (with_bounds s b) s.rows (variables s)) l e) found.estimated_is
 
     pub filled_in_lem : lent k f ≡ filled_in s (lent l e)
     unfolding filled_in
     filled_in_lem = ap (λ (x : Certificate). lent x.lists_of x.errors) writes
 
-    pub kept_is : {leaving : ℕ} {p : Proof} → leaving ≡ leaving_variable s
-        → p ≡ judgement (model_of s) leaving estimated (variables s) (certificate k f c) → p ≡ proof_of s
-    unfolding proof_of certificate_of
-    kept_is leaves judges =
+    -- the judgement of the sheet, with what is said of the widened variables
+    pub kept_is : {widened said : ℕ → Bool → Bool} {p : Proof} → widened ≡ said
+        → p ≡ judgement (model_with s widened) leaving estimated (variables s) (certificate k f c)
+        → p ≡ judgement (model_with s said) (leaving_variable s) (system_of s).estimated (variables s) (certificate_of s)
+    unfolding certificate_of
+    kept_is {said = said} same judges =
         judges
-        ∙ ap (λ (v : ℕ). judgement (model_of s) v estimated (variables s) (certificate k f c)) leaves
-        ∙ ap (λ (b : Bool). judgement (model_of s) (leaving_variable s) b (variables s) (certificate k f c)) bounds
-        ∙ ap (judgement (model_of s) (leaving_variable s) (system_of s).estimated (variables s)) writes
+        ∙ ap (λ (w : ℕ → Bool → Bool). judgement (model_with s w) leaving estimated (variables s) (certificate k f c)) same
+        ∙ ap (λ (v : ℕ). judgement (model_with s said) v estimated (variables s) (certificate k f c)) found.leaving_is
+        ∙ ap (λ (b : Bool). judgement (model_with s said) (leaving_variable s) b (variables s) (certificate k f c)) found.estimated_is
+        ∙ ap (judgement (model_with s said) (leaving_variable s) (system_of s).estimated (variables s)) writes
         ∙ judgement-written (system_of s).estimated (certificate_of s) l e
-        (combined-lent s accepted (system_of s).estimated (is_set s.leaving_up)) (model_of s) (leaving_variable s)
+        (combined-lent s accepted (system_of s).estimated (is_set s.leaving_up)) (model_with s said) (leaving_variable s)
 
 -- ---- what is lent afterwards, where no question refuses and where one does
 module _ (s : Sheet) (before : KeptLent) where

@@ -3,7 +3,7 @@ use mathlib.Core.Path.{◌≡◌, refl, ap, ◌∙◌}
 use Rattle.std.proofs.Common.{Option}
 use Prim.Native.Nat.{ℕ, ◌+◌, ◌<◌}
 use lib.Ieee.{Float}
-use Rattle.exact.proofs.Turns.{Turn, next}
+use Rattle.loops.proofs.Turns.{Turn, next}
 use Rattle.multipliers.specs.Refinement.{norm_with, finite_max_norm}
 
 module _ (number : ℕ → Float) (n : ℕ) where

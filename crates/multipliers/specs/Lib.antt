@@ -1,3 +1,4 @@
 pub mod Multipliers
 pub mod Lent
 pub mod Refinement
+pub mod Reads

@@ -18,7 +18,7 @@ unfoldable pub finite_max_norm : (ℕ → Float) → ℕ → Option Float
 finite_max_norm number zero = Some plus_zero
 finite_max_norm number (suc n) = norm_with (finite_max_norm number n) (number n)
 
--- `REFINEMENT_CONVERGED`, 2^-53
+-- `Multiplier::REFINEMENT_CONVERGED`, 2^-53
 abbrev pub refinement_converged : Float
 refinement_converged = fin false 1 (negsuc 52)
 

@@ -6,4 +6,4 @@ mod refinement;
 mod weighing;
 
 pub use refinement::error_bounds;
-pub use weighing::{Multiplier, multiplier_at, spreads};
+pub use weighing::{Multiplier, spreads, write_multipliers};

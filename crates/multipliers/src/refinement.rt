@@ -4,12 +4,10 @@ ghost use Rattle.std.specs.Float.{nan};
 ghost use Rattle.cdouble.specs.Compensated.{value};
 ghost use Rattle.multipliers.specs.Refinement.{converges, error_bounds, finite_max_norm, norm_with, refined, rho_at};
 
+use crate::Multiplier;
 use cdouble::CDouble;
 use double_bits::{abs, is_finite, max};
 use sheet::Sheet;
-
-/// A correction of at most so much of the solution, in the max norm, is one of a refinement that converged: 2^-53.
-const REFINEMENT_CONVERGED: f64 = 1.110_223_024_625_156_5e-16;
 
 /// One number more in the largest magnitude, which is `None` if one is not finite.
 fn norm_with(norm: Option<f64>, x: f64) -> Option<f64>
@@ -53,7 +51,7 @@ fn norms_converge(x_norm: Option<f64>, second_norm: Option<f64>) -> bool
     ensures { result ≡ converges x_norm second_norm }
 {
     match (x_norm, second_norm) {
-        (Some(x), Some(second)) => second <= REFINEMENT_CONVERGED * x,
+        (Some(x), Some(second)) => second <= Multiplier::REFINEMENT_CONVERGED * x,
         _ => false,
     }
 }

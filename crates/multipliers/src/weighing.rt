@@ -1,19 +1,25 @@
 //! What becomes of a row's multiplier.
-ghost use Rattle.std.specs.Prelude.{◌≡◌, length, ◌<◌};
-ghost use Rattle.questions.specs.Rows.{slack_of};
+ghost use Rattle.std.specs.Prelude.{◌≡◌, length, ℕ, ◌<◌};
+ghost use Rattle.loops.specs.Listed.{listed};
 ghost use Rattle.multipliers.specs.Lent.{lent_multiplier};
+ghost use Rattle.multipliers.specs.Reads.{MultiplierRead};
 ghost use Rattle.multipliers.specs.Multipliers.{needs_infinite_side, signed, spreads, weighed};
 
 use cdouble::CDouble;
 use double_bits::abs;
 use sheet::Sheet;
 
-/// A row's multiplier: dropped because it is within its error of zero, dropped otherwise, or kept.
+/// A row's multiplier: dropped, dropped because it is within its error of zero, or kept.
 #[derive(Clone, Copy)]
 pub enum Multiplier {
-    Zeroed(CDouble),
     Dropped,
+    Zeroed(CDouble),
     Kept(CDouble),
+}
+
+impl Multiplier {
+    /// A correction of at most so much of the multipliers, in the max norm, is one of a refinement that converged: 2^-53.
+    pub const REFINEMENT_CONVERGED: f64 = 1.110_223_024_625_156_5e-16;
 }
 
 /// The multiplier of a row of the basis inverse, by the direction in which the leaving variable leaves.
@@ -52,12 +58,8 @@ fn weighed(estimated: bool, error: f64, y: CDouble, min: f64, max: f64) -> Multi
 }
 
 /// What becomes of the multiplier of the row `r`.
-pub fn multiplier_at(s: &Sheet, estimated: bool, r: usize) -> Multiplier
-    requires in_mins { slack_of s.now.structurals r < length s.now.mins.now }
-    requires in_maxs { slack_of s.now.structurals r < length s.now.maxs.now }
-    requires in_rho_hi { r < length s.now.rho_hi.now }
-    requires in_rho_lo { r < length s.now.rho_lo.now }
-    requires in_second { r < length s.now.second.now }
+fn multiplier_at(s: &Sheet, estimated: bool, r: usize) -> Multiplier
+    requires { MultiplierRead s.now r }
     ensures { result ≡ lent_multiplier s.now estimated r }
 {
     let rho = CDouble {
@@ -67,6 +69,17 @@ pub fn multiplier_at(s: &Sheet, estimated: bool, r: usize) -> Multiplier
     let y = signed(s.leaving_up != 0, rho);
     let slack = s.structurals + r;
     weighed(estimated, abs(s.second[r]), y, s.mins[slack], s.maxs[slack])
+}
+
+/// What becomes of the multiplier of each row, written to a list with a place for each.
+pub fn write_multipliers(s: &Sheet, estimated: bool, multipliers: &mut [Multiplier])
+    requires { (r : ℕ) → r < length multipliers.old → MultiplierRead s.now r }
+    ensures { multipliers.new ≡ listed (length multipliers.old) (lent_multiplier s.now estimated) }
+{
+    // Kept: `r` goes to several lists of the sheet too.
+    for r in 0..multipliers.len() {
+        multipliers[r] = multiplier_at(s, estimated, r);
+    }
 }
 
 /// What a row's multiplier carries of the errors to its variables in basis, per unit of their entries.

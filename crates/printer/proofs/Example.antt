@@ -3,21 +3,23 @@ use mathlib.Core.Path.{◌≡◌, refl}
 use mathlib.Core.Bool.{true}
 use lib.Ieee.{of_bits, to_bits, binary64}
 use Rattle.std.specs.Prelude.{◌++◌, Ok, Err}
-use Rattle.printer.specs.declared.Lines.{Lines}
+use Rattle.verdict.specs.declared.Verdict.{Verdict}
 use Rattle.text_items.specs.Text.{bytes}
 use Rattle.printer.specs.Digits.{digits, digit_count}
 use Rattle.printer.specs.Answer.{line, refusal_line, nine_lines, answer_text}
 
-abbrev verdict : Lines
+abbrev verdict : Verdict
 verdict =
     record {
-      holds = true;
-      gap = of_bits binary64 0x4000000000000000;
-      allowance = of_bits binary64 0x39F8000000000000;
-      cut = of_bits binary64 0x3CB0000000000324;
-      zero_within_error = 0;
-      multipliers_zeroed = 0;
-      rows = 1;
+      proof = record {
+        holds = true;
+        gap = of_bits binary64 0x4000000000000000;
+        allowance = of_bits binary64 0x39F8000000000000;
+        cut = of_bits binary64 0x3CB0000000000324;
+        zero_within_error = 0;
+        multipliers_zeroed = 0;
+        rows = 1;
+      };
       outward = of_bits binary64 0x4000000000000000;
       declined = true;
     }

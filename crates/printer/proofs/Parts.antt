@@ -8,7 +8,7 @@ use native.Mathlib.Omega.{arith}
 use borrow.Author.Tests.{le-leb}
 use lib.ListN.{length, take, length-append}
 use Rattle.std.specs.Prelude.{Result, Ok, Err}
-use Rattle.printer.specs.declared.Lines.{Lines}
+use Rattle.verdict.specs.declared.Verdict.{Verdict}
 use Rattle.printer.specs.Stored.{Stored}
 use Rattle.printer.specs.Answer.{line, yes_or_no, refusal_line, nine_lines, answer_text, written_if_fits}
 use Rattle.printer.proofs.Lengths.{length-hexadecimal, decimal_short}
@@ -18,16 +18,16 @@ flag_short : (b : Bool) → length (yes_or_no b) ≤ 3
 flag_short true = omega arith
 flag_short false = omega arith
 
-pub answer_short : (answer : Result Lines ℕ) → length (answer_text answer) ≤ 256
+pub answer_short : (answer : Result Verdict ℕ) → length (answer_text answer) ≤ 256
 unfolding nine_lines refusal_line line
-answer_short (Ok l) =
+answer_short (Ok v) =
     simp (length-append, length-hexadecimal) (omega (
       arith,
-      flag_short l.holds,
-      decimal_short l.zero_within_error,
-      decimal_short l.multipliers_zeroed,
-      decimal_short l.rows,
-      flag_short l.declined,
+      flag_short v.proof.holds,
+      decimal_short v.proof.zero_within_error,
+      decimal_short v.proof.multipliers_zeroed,
+      decimal_short v.proof.rows,
+      flag_short v.declined,
     ))
 answer_short (Err number) = simp length-append (omega (arith, decimal_short number))
 

@@ -1,7 +1,7 @@
 -- What `weigh` prints: document 01, "The sheet". Assumes nothing.
 use Rattle.std.specs.Prelude.{Bool, cond, List, ◌++◌, ℕ, leb, length, Result, Ok, Err}
 use Rattle.std.proofs.lemmas.List.Edits.{sets}
-use Rattle.printer.specs.declared.Lines.{Lines}
+use Rattle.verdict.specs.declared.Verdict.{Verdict}
 use Rattle.text_items.specs.Text.{bytes}
 use Rattle.printer.specs.Digits.{hexadecimal, decimal}
 
@@ -17,21 +17,21 @@ unfoldable pub refusal_line : ℕ → List ℕ
 refusal_line number = line (bytes "(refused ") (decimal number)
 
 -- "From standard input `weigh` prints this": the nine lines of the second example, in its order
-unfoldable pub nine_lines : Lines → List ℕ
-nine_lines l =
-    line (bytes "(holds ") (yes_or_no l.holds)
-    ++ (line (bytes "(gap ") (hexadecimal l.gap)
-    ++ (line (bytes "(allowance ") (hexadecimal l.allowance)
-    ++ (line (bytes "(cut ") (hexadecimal l.cut)
-    ++ (line (bytes "(zero-within-error ") (decimal l.zero_within_error)
-    ++ (line (bytes "(multipliers-zeroed ") (decimal l.multipliers_zeroed)
-    ++ (line (bytes "(rows ") (decimal l.rows)
-    ++ (line (bytes "(outward ") (hexadecimal l.outward)
-    ++ line (bytes "(declined ") (yes_or_no l.declined))))))))
+unfoldable pub nine_lines : Verdict → List ℕ
+nine_lines v =
+    line (bytes "(holds ") (yes_or_no v.proof.holds)
+    ++ (line (bytes "(gap ") (hexadecimal v.proof.gap)
+    ++ (line (bytes "(allowance ") (hexadecimal v.proof.allowance)
+    ++ (line (bytes "(cut ") (hexadecimal v.proof.cut)
+    ++ (line (bytes "(zero-within-error ") (decimal v.proof.zero_within_error)
+    ++ (line (bytes "(multipliers-zeroed ") (decimal v.proof.multipliers_zeroed)
+    ++ (line (bytes "(rows ") (decimal v.proof.rows)
+    ++ (line (bytes "(outward ") (hexadecimal v.outward)
+    ++ line (bytes "(declined ") (yes_or_no v.declined))))))))
 
 -- the text of an answer: a verdict's lines, or the line of the question that refused
-abbrev pub answer_text : Result Lines ℕ → List ℕ
-answer_text (Ok lines) = nine_lines lines
+abbrev pub answer_text : Result Verdict ℕ → List ℕ
+answer_text (Ok v) = nine_lines v
 answer_text (Err number) = refusal_line number
 
 -- "Output that won't fit the lent slice is answered by the length needed and nothing written"

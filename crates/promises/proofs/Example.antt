@@ -18,7 +18,7 @@ use Rattle.promises.specs.Promises.{book_of, IsBake}
 abbrev example : Sheet
 example =
     sheet (record { rows = 1; structurals = 1; entries = 2 }) (whole 0) 0 0 0 (record { high = 0; low = 0; magnitudes = 0; terms = 0; errors = 0 })
-    (0 ∷ 2 ∷ []) (0 ∷ 1 ∷ []) (whole 2 ∷ whole 1 ∷ []) (whole 1 ∷ []) [] [] (whole 0 ∷ whole 0 ∷ []) (whole 1 ∷ whole 0 ∷ []) [] [] [] [] [] [] [] [] [] []
+    (0 ∷ 2 ∷ []) (0 ∷ 1 ∷ []) (whole 2 ∷ whole 1 ∷ []) (whole 1 ∷ []) [] [] (whole 0 ∷ whole 0 ∷ []) (whole 1 ∷ whole 0 ∷ []) [] [] [] [] [] [] [] [] []
 
 two_positive : 0 < 2
 two_positive = omega arith

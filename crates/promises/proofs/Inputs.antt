@@ -8,11 +8,14 @@ use Prim.Native.Nat.{ℕ, zero, suc, ◌≤◌}
 use borrow.Author.Tests.{eq-eqb, ne_eqb}
 use lib.Dec.{T, eqb}
 use Rattle.std.specs.Prelude.{IfOk, Result, Ok, Err}
-use Rattle.cdouble.proofs.Contracts.{when_true, when_false}
+use Rattle.loops.proofs.Branches.{when_true, when_false}
+use Rattle.sheet.specs.declared.numbers.Refusal.TheVariants.{Form}
+use Rattle.sheet.specs.Numbers.{number_of}
 use Rattle.sheet.specs.Sheet.{Sheet, Doubles}
 use Rattle.sheet.specs.Answers.{Accepted, ask, first_no}
+use Rattle.sheet.specs.Outputs.{Lent}
 use Rattle.sheet.proofs.RefusalNumbers.{ok_says}
-use Rattle.kept.specs.Kept.{Lent, after, filled_in}
+use Rattle.kept.specs.Kept.{after, filled_in}
 use Rattle.verdict.specs.declared.Verdict.{Verdict}
 use Rattle.verdict.specs.Verdict.{verdict, full_verdict}
 use Rattle.verdict.specs.Promised.{Promised}
@@ -63,7 +66,7 @@ module _ (s : Sheet) (d : Doubles s) where
       )
 
 module _ (text : List ℕ) where
-  text_refused : follows_form text ≡ false → answer_to (as_text text) ≡ Err 1
+  text_refused : follows_form text ≡ false → answer_to (as_text text) ≡ Err (number_of Form)
   unfolding text_verdict
   text_refused bad = sym (when_false (verdict (sheet_in text)) refl bad)
 
@@ -78,7 +81,7 @@ module _ (text : List ℕ) where
       go (inl full) = inl (same ∙ full)
       go (inr refused) =
           inr (refused.0, record { numbered = refused.1.numbered; answer_is = same ∙ refused.1.answer_is; untouched = λ before. refl })
-  text_either false form = inr (1, record { numbered = (omega arith, omega arith); answer_is = text_refused form; untouched = λ before. refl })
+  text_either false form = inr (number_of Form, record { numbered = (omega arith, omega arith); answer_is = text_refused form; untouched = λ before. refl })
 
 pub either : (i : Input) → IsFull i ⊎ ((number : ℕ) × IsRefusal i number)
 either (in_slices s d) = slices_either s d (first_no s) refl
@@ -93,7 +96,7 @@ text_formed : (text : List ℕ) (v : Verdict) → text_verdict text ≡ Ok v →
 unfolding text_verdict
 text_formed text v is = go (follows_form text) refl is
   where
-    go : (b : Bool) → follows_form text ≡ b → cond b (verdict (sheet_in text)) (Err 1) ≡ Ok v → T (follows_form text) × (verdict (sheet_in text) ≡ Ok v)
+    go : (b : Bool) → follows_form text ≡ b → cond b (verdict (sheet_in text)) (Err (number_of Form)) ≡ Ok v → T (follows_form text) × (verdict (sheet_in text) ≡ Ok v)
     go true form e = (subst T (sym form) tt, e)
     go false form e = cc
 

@@ -11,9 +11,9 @@ use Rattle.cdouble.proofs.TwoSum.{two_sum_exact}
 use Rattle.cdouble.proofs.TwoProduct.{two_product_exact}
 use Rattle.sheet.specs.Sheet.{Sheet}
 use Rattle.sheet.specs.Answers.{Accepted}
-use Rattle.kept.specs.Kept.{Lent, lent, proof_of}
+use Rattle.sheet.specs.Outputs.{Lent, lent, lists}
+use Rattle.kept.specs.Kept.{proof_of}
 use Rattle.kept.proofs.Whole.{after_full}
-use Rattle.certificate.specs.Added.{lists}
 use Rattle.gaps.specs.Rows.{kept_of, rows_of, ranges_of}
 use Rattle.gaps.specs.Steps.{outward_of}
 use Rattle.gaps.specs.ExactGap.{exact_of}

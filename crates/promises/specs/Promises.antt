@@ -8,7 +8,8 @@ use Rattle.cdouble.specs.Compensated.{plus_zero, two_sum, two_product}
 use Rattle.cdouble.specs.Exactness.{SumRange, ProductRange, IsExact}
 use Rattle.sheet.specs.Sheet.{Sheet, Doubles, variables}
 use Rattle.sheet.specs.Answers.{Accepted}
-use Rattle.kept.specs.Kept.{Lent, after, filled_in, proof_of}
+use Rattle.sheet.specs.Outputs.{Lent}
+use Rattle.kept.specs.Kept.{after, filled_in, proof_of}
 use Rattle.gaps.specs.Rows.{Rows, Ranges, rows_of, ranges_of, kept_of}
 use Rattle.gaps.specs.Steps.{outward_of}
 use Rattle.gaps.specs.Points.{Point, Lies, Meets}
@@ -20,10 +21,10 @@ use Rattle.verdict.specs.Verdict.{verdict, full_verdict}
 use Rattle.sheet_text.specs.Form.{follows_form}
 use Rattle.sheet_text.specs.SheetIn.{sheet_in}
 use Rattle.printer.specs.Answer.{answer_text}
-use Rattle.weigh_text.specs.TextVerdict.{text_verdict, text_answer, in_lines}
+use Rattle.weigh_text.specs.TextVerdict.{text_verdict, text_answer}
 
 -- ---- what is put to an entry point
--- a sheet lent in slices, as to `sheet_verdict` and `verdict_of`, whose numbers are doubles by the slices' type; or a text, as to `weigh_text`
+-- a sheet lent in slices, as to `sheet_verdict`, whose numbers are doubles by the slices' type; or a text, as to `weigh_text`
 pub data Input : Type 0 where
   in_slices : (s : Sheet) → Doubles s → Input
   as_text : List ℕ → Input
@@ -65,7 +66,7 @@ pub record FirstDemand : Type 0 where
   pub full_if_accepted : (i : Input) → IsAccepted i → IsFull i
   pub accepted_if_full : (i : Input) (v : Verdict) → answer_to i ≡ Ok v → IsAccepted i
   -- what is printed for a text is its answer
-  pub printed : (text : List ℕ) → text_answer text ≡ answer_text (in_lines (answer_to (as_text text)))
+  pub printed : (text : List ℕ) → text_answer text ≡ answer_text (answer_to (as_text text))
 
 -- ---- 2. "each number from IEEE 754 operations in the stated order, Knuth's sum and Dekker's product exact in the stated ranges, the outward gap
 -- equal to document 01's steps"

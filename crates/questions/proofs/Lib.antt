@@ -1,6 +1,7 @@
-pub mod All
 pub mod Tests
 pub mod Tallies
-pub mod Marks
+pub mod Marked
+pub mod Searched
+pub mod Counts
 pub mod PlaceTests
 pub mod RowTests

@@ -11,8 +11,8 @@ use Rattle.std.proofs.Common.{Some, nat_cmp}
 use Rattle.std.specs.Ordering.{is_le, is_some_and}
 use Rattle.std.specs.List.{IsAllAdjacentAnswer}
 use Rattle.std.proofs.lemmas.List.Sorted.{non_decreasing_from_is_sorted}
-use Rattle.questions.specs.Places.{all_below}
-use Rattle.questions.proofs.All.{all_of, all_fails}
+use Rattle.loops.specs.Places.{all_below}
+use Rattle.loops.proofs.All.{all_of, all_fails}
 use Rattle.questions.specs.RowQuestions.{rises_at, slack_entry_fine}
 
 -- ---- the starts, in order

@@ -11,11 +11,11 @@ use lib.Dec.{eqb, ltb}
 use lib.ListN.{length, get_or, set, replicate, length-set}
 use lib.Seq.{get_or-set_same, get_or-set_other}
 use Rattle.questions.specs.Flags.{is_set}
-use Rattle.questions.specs.Places.{all_below}
+use Rattle.loops.specs.Places.{all_below}
 use Rattle.questions.specs.BasisPlaces.{holders}
 use Rattle.questions.specs.PlaceQuestions.{place_fine_at, held_once_at, basis_fine}
 use Rattle.questions.specs.Tallies.{counted, tallied, one_at, Countable, Tally}
-use Rattle.questions.proofs.All.{all_at, all_same}
+use Rattle.loops.proofs.All.{all_at, all_same}
 
 -- counting keeps the length
 pub counted-long : (flag p : ℕ) (counts : List ℕ) → length (counted flag p counts) ≡ length counts

@@ -1,6 +1,5 @@
--- Which variables hold a basis place, and what the widened list holds. Assumes nothing.
-use Rattle.std.specs.Prelude.{Bool, false, ◌&&◌, ◌||◌, cond, List, ℕ, zero, suc, ◌+◌, eqb, get_or}
-use Rattle.std.specs.Bool.{beq}
+-- Which variables hold a basis place. Assumes nothing.
+use Rattle.std.specs.Prelude.{Bool, ◌&&◌, cond, List, ℕ, zero, suc, ◌+◌, eqb, get_or}
 use Rattle.questions.specs.Flags.{is_set}
 
 -- whether the variable v is basic at the place p
@@ -11,8 +10,3 @@ holds_place basic places p v = is_set (get_or basic v 0) && eqb (get_or places v
 unfoldable pub holders : List ℕ → List ℕ → ℕ → ℕ → ℕ
 holders basic places zero p = 0
 holders basic places (suc n) p = holders basic places n p + cond (holds_place basic places p n) 1 0
-
--- whether one of the first n widened items is (v, up)
-unfoldable pub widened_among : List ℕ → List ℕ → ℕ → ℕ → Bool → Bool
-widened_among vars ups zero v up = false
-widened_among vars ups (suc n) v up = widened_among vars ups n v up || (eqb (get_or vars n 0) v && beq (is_set (get_or ups n 0)) up)

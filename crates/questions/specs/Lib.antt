@@ -1,9 +1,10 @@
 pub mod Limits
 pub mod Flags
-pub mod Places
 pub mod Questions
 pub mod BasisPlaces
 pub mod PlaceQuestions
 pub mod Tallies
+pub mod WidenedList
+pub mod Marks
 pub mod Rows
 pub mod RowQuestions

@@ -1,9 +1,8 @@
--- Document 01, "Questions put to the input": the ninth, put to the basis, and the eleventh, put to the widened list. A name that ends in At is
--- the test at one place. Assumes nothing.
+-- Document 01, "Questions put to the input": the ninth, put to the basis. A name that ends in At is the test at one place. Assumes nothing.
 use Rattle.std.specs.Prelude.{Bool, not, ◌&&◌, ◌||◌, List, ℕ, ltb, eqb, length, get_or}
 use Rattle.questions.specs.Flags.{is_set}
-use Rattle.questions.specs.Places.{all_below}
-use Rattle.questions.specs.BasisPlaces.{holders, widened_among}
+use Rattle.loops.specs.Places.{all_below}
+use Rattle.questions.specs.BasisPlaces.{holders}
 
 -- ---- 9. "Is each basis place 0 to rows − 1 held by just one variable, …
 abbrev pub held_once_at : List ℕ → List ℕ → ℕ → Bool
@@ -15,10 +14,3 @@ place_fine_at rows basic places v = not (is_set (get_or basic v 0)) || ltb (get_
 
 unfoldable pub basis_fine : ℕ → List ℕ → List ℕ → Bool
 basis_fine rows basic places = all_below (length basic) (place_fine_at rows basic places) && all_below rows (held_once_at basic places)
-
--- ---- 11. "Does each widened item name a variable, no (variable, side) twice?"
-abbrev pub item_fine_at : ℕ → List ℕ → List ℕ → ℕ → Bool
-item_fine_at count vars ups k = ltb (get_or vars k 0) count && not (widened_among vars ups k (get_or vars k 0) (is_set (get_or ups k 0)))
-
-unfoldable pub widened_fine : ℕ → List ℕ → List ℕ → Bool
-widened_fine count vars ups = all_below (length vars) (item_fine_at count vars ups)

@@ -6,7 +6,7 @@ use Rattle.std.specs.Float.Ieee.{mul, le, ne}
 use Rattle.std.specs.Float.Ieee.Scale.{finite}
 use Rattle.exact.specs.Value.{sign}
 use Rattle.questions.specs.Limits.{most_rows, most_structurals, most_entries}
-use Rattle.questions.specs.Places.{all_below}
+use Rattle.loops.specs.Places.{all_below}
 
 -- ---- 2. "Are there 1 to 128 rows, 0 to 256 structural variables, at most 4,096 entries?"
 unfoldable pub sizes_fine : ℕ → ℕ → ℕ → Bool

@@ -3,7 +3,7 @@
 use Rattle.std.specs.Prelude.{Bool, false, ◌&&◌, List, ℕ, ◌+◌, ◌-◌, leb, ltb, eqb, pos, length, get_or, Float}
 use Rattle.std.specs.Float.{nan, fin}
 use Rattle.std.specs.Float.Ieee.{eq}
-use Rattle.questions.specs.Places.{all_below}
+use Rattle.loops.specs.Places.{all_below}
 use Rattle.questions.specs.Questions.{all_finite}
 use Rattle.questions.specs.Rows.{slack_of, part}
 

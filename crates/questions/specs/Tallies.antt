@@ -1,8 +1,8 @@
--- How the code answers the ninth and the eleventh question in one pass each: it counts the variables at each place, and marks each widened item
--- that it meets. Read by contracts of functions that the crate keeps to itself. Assumes nothing.
-use Rattle.std.specs.Prelude.{◌≡◌, Bool, true, false, cond, List, ℕ, zero, suc, ◌+◌, ◌*◌, ◌^◌, ◌≤◌, ◌<◌, eqb, length, get_or, set}
+-- How the code answers the ninth question in one pass: it counts the variables at each place. Read by contracts of functions that the crate keeps
+-- to itself. Assumes nothing.
+use Rattle.std.specs.Prelude.{◌≡◌, Bool, true, cond, List, ℕ, zero, suc, ◌+◌, ◌^◌, ◌≤◌, ◌<◌, eqb, length, get_or, set}
 use Rattle.questions.specs.Flags.{is_set}
-use Rattle.questions.specs.Places.{all_below}
+use Rattle.loops.specs.Places.{all_below}
 use Rattle.questions.specs.PlaceQuestions.{place_fine_at}
 
 -- one more at the place p where the flag is set
@@ -29,14 +29,3 @@ pub record Tally (rows : ℕ) (basic places counts : List ℕ) : Type 0 where
   pub fine : all_below (length basic) (place_fine_at rows basic places) ≡ true
   pub room : rows ≤ length counts
   pub zeros : (p : ℕ) → get_or counts p 0 ≡ 0
-
--- two marks for each variable, down and up
-abbrev pub mark_of : ℕ → Bool → ℕ
-mark_of v up = 2 * v + cond up 1 0
-
--- what is asked before anything is marked: both lists are of one length, there are marks for each variable, and none is set
-pub record Unmarked (count : ℕ) (vars ups : List ℕ) (marks : List Bool) : Type 0 where
-  pub same : length ups ≡ length vars
-  pub room : 2 * count ≤ length marks
-  pub small : 2 * count < 2 ^ 64
-  pub clear : (m : ℕ) → get_or marks m false ≡ false

@@ -1,7 +1,7 @@
 //! The ninth question: the basis places are counted, each once for every variable that holds it.
 ghost use Rattle.std.specs.Prelude.{◌≡◌, ◌≤◌, length};
 ghost use Rattle.questions.specs.Limits.{most_rows};
-ghost use Rattle.questions.specs.Places.{all_below};
+ghost use Rattle.loops.specs.Places.{all_below};
 ghost use Rattle.questions.specs.Tallies.{Countable, counted, one_at, Tally, tallied};
 ghost use Rattle.questions.specs.PlaceQuestions.{basis_fine, held_once_at, place_fine_at};
 

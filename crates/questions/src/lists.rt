@@ -1,6 +1,6 @@
 //! Questions over all places of one list, or of two of one length.
 ghost use Rattle.std.specs.Prelude.{◌≡◌, length};
-ghost use Rattle.questions.specs.Places.{all_below};
+ghost use Rattle.loops.specs.Places.{all_below};
 ghost use Rattle.questions.specs.Questions.{all_finite, all_plain, bounds_fine, leaving_row_fine, plain, product_finite_at, range_fine, tolerances_fine};
 
 use double_bits::is_finite;

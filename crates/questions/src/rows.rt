@@ -1,6 +1,6 @@
 //! Questions over the rows, whose columns and entries are handed on as parts of the lent slices.
 ghost use Rattle.std.specs.Prelude.{◌≡◌, ◌+◌, ◌-◌, ◌<◌, ◌≤◌, ◌^◌, length, get_or};
-ghost use Rattle.questions.specs.Places.{all_below};
+ghost use Rattle.loops.specs.Places.{all_below};
 ghost use Rattle.questions.specs.Rows.{part, RowsLie};
 ghost use Rattle.questions.specs.RowQuestions.{column_fine_at, columns_fine, entries_fine, row_columns_fine, slack_entry_fine, slack_entry_fine_at, starts_fine};
 

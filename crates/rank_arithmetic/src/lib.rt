@@ -6,4 +6,4 @@
 mod digits;
 mod ranks;
 
-pub use ranks::{Bounds, INFINITY, rank_difference, rank_product, rank_sum};
+pub use ranks::{Bounds, FIELD, INFINITY, SIGN, rank_difference, rank_product, rank_sum};

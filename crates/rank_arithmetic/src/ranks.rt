@@ -6,7 +6,10 @@ ghost use Rattle.rank_arithmetic.specs.Rank.{at_rank, infinity, largest, rank_do
 use crate::digits::{width, without};
 
 /// What one more in the exponent adds to a rank: 2^52.
-const FIELD: u64 = 0x10_0000_0000_0000;
+pub const FIELD: u64 = 0x10_0000_0000_0000;
+
+/// The bit pattern of -0, in which only the sign is set: what it adds to a rank.
+pub const SIGN: u64 = f64::to_bits(-0.0);
 
 /// The rank of the largest finite double.
 const LARGEST: u64 = f64::to_bits(f64::MAX);

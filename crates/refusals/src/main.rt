@@ -1,5 +1,5 @@
-// Puts the sheets of standard input, which tests/refusals/generate.py writes, to the questions of the crate `sheet`, and
-// says for each refusal number how many cases were run and how many of them got another number.
+// Puts the sheets of standard input, which tests/refusals/generate.py writes, to `sheet_verdict`, and says for each refusal
+// number how many cases were run and how many of them got another number.
 //
 // A case is a line that makes a sound sheet, lines that change it, and a line with the number that it is to get. A line
 // is a letter and four numbers of 16 digits, each after a space. Numbers that a letter does not have are 0.
@@ -9,16 +9,17 @@
 //     P slice place value                 puts a value at a place of a slice: a number, a flag, or a double's pattern
 //     E refusal case                      the refusal's number, 0 for none; and the case's, for whoever looks it up
 //
-// A slice goes by its place among the slices that `first_no` takes. After them comes one that is not handed over: the
-// lengths of the others, and the numbers of the sheet. A line of any other form counts as a case that differs.
+// A slice goes by its place among those of `case_slices`. After them comes one that is not handed over: the lengths of the
+// others, and the numbers of the sheet. The widened list is two slices of one length, and the second is told only the
+// length that the first has. A line of any other form counts as a case that differs.
 #![tactic(auto)]
 
-ghost use Rattle.std.specs.Prelude.{◌+◌, ◌≤◌};
-
-use case_slices::{Numbers, ROWS, SLICES, Slice, Slices, VARIABLES, byte, outputs_alike};
-use sheet::{Outputs, first_no};
+use case_slices::{Numbers, ROWS, SLICES, Slice, Slices, VARIABLES, byte};
+use questions::Widened;
+use sheet::{Lists, Outputs};
 use std::io;
 use tables::{Tallies, each_line, numbers};
+use verdict::sheet_verdict;
 
 // Bytes in a line, its end included.
 const LINE: usize = 70;
@@ -30,6 +31,9 @@ const KINDS: usize = 13;
 const MOST: usize = 4100;
 
 const TOLERANCE: f64 = 1e-6;
+
+// The most places that an output has; one that a table makes longer has as many. No accepted sheet has more variables.
+const OUTPUT: usize = 400;
 
 /// What a line says.
 #[derive(Clone, Copy)]
@@ -106,6 +110,17 @@ fn sound_case(shape: Shape) -> Case {
     }
 }
 
+/// Outputs of one length.
+fn outputs_alike(length: usize) -> Outputs {
+    Outputs {
+        high: length,
+        low: length,
+        magnitudes: length,
+        terms: length,
+        errors: length,
+    }
+}
+
 /// Puts at each place what a function answers for it.
 fn fill<T: Copy, F: Fn(usize) -> T>(xs: &mut [T], value_at: F)
     requires { F.IsAlwaysCallable value_at }
@@ -136,8 +151,13 @@ fn sound_slices(shape: Shape) -> Slices {
     fill(&mut s.basic, |k| u8::from(structurals <= k));
     fill(&mut s.places, |k| k.saturating_sub(structurals));
     s.values = [0.5; VARIABLES];
-    fill(&mut s.widened_vars, |k| k / 2);
-    fill(&mut s.widened_ups, |k| byte(k % 2));
+    fill(
+        &mut s.widened,
+        |k| Widened {
+            variable: k / 2,
+            up: byte(k % 2),
+        },
+    );
     s
 }
 
@@ -165,6 +185,7 @@ impl Case {
     fn put_number(&mut self, place: usize, value: usize) -> bool {
         // Kept: the outputs' lengths and the numbers are fields, so no table of them can be looked up.
         match place {
+            14 => return self.lengths[Slice::WidenedVars as usize] == value,
             0..SLICES => self.lengths[place] = value,
             18 => self.outputs.high = value,
             19 => self.outputs.low = value,
@@ -184,13 +205,29 @@ impl Case {
         }
     }
 
-    /// The number of the first question that refuses the sheet, 0 for none.
+    /// The number of the refusal that the sheet gets, 0 for none.
     fn answer(&self) -> usize {
-        match first_no(
-            &self.slices.lent(&self.numbers, &self.lengths),
-            self.outputs,
+        // Kept: arrays of a fixed size, since no program allocates and the limits are fixed.
+        let mut high = [0.0; OUTPUT];
+        let mut low = [0.0; OUTPUT];
+        let mut magnitudes = [0.0; OUTPUT];
+        let mut terms = [0u32; OUTPUT];
+        let mut errors = [0.0; OUTPUT];
+        let mut l = Lists {
+            high: &mut high[..self.outputs.high.min(OUTPUT)],
+            low: &mut low[..self.outputs.low.min(OUTPUT)],
+            magnitudes: &mut magnitudes[..self.outputs.magnitudes.min(OUTPUT)],
+            terms: &mut terms[..self.outputs.terms.min(OUTPUT)],
+        };
+        let sheet = self.slices.lent(&self.numbers, &self.lengths);
+        let widened = self.slices.records(&self.lengths);
+        match sheet_verdict(
+            widened,
+            &sheet,
+            &mut l,
+            &mut errors[..self.outputs.errors.min(OUTPUT)],
         ) {
-            Ok(()) => 0,
+            Ok(_) => 0,
             Err(refusal) => u32::from(refusal) as usize,
         }
     }

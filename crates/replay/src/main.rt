@@ -9,30 +9,27 @@
 //                                  each output as many places as there are variables, and the extra; noted is 1 where a
 //                                  product differs from the Rust's, else 0
 //     D slice place n x x x x x    puts n values, 1 to 5, into a slice from a place on: numbers, flags, doubles' patterns
-//     G refusal holds gap allowance cut zero_within_error multipliers_zeroed rows    runs the sheet: the answer
-//     O refusal outward exact      reckons outward: the refusal, the outward gap, and the exact gap rounded down, which is
+//     G refusal holds gap allowance cut zero_within_error multipliers_zeroed rows    runs the sheet: the kept numbers
+//     O refusal outward exact      the other reckoning: the refusal, the outward gap, and the exact gap rounded down, which is
 //                                  NaN where there is none; both 0 where the sheet is refused
 //     L list place n x x x x x     n places of an output, 1 to 5: high, low, magnitudes, terms, errors, place after place
 //
 // A sheet that is noted is one on which a product that the promise of `mul_up` gives has other bits than the Rust's:
 // such a sheet's answer is the Rust's but for its products, which are the promised ones.
 //
-// A slice goes by its place among those that `proof_of` takes. After them comes one that is not handed over: the numbers
-// of the sheet. A new sheet has 0 everywhere, but for the sizes among its numbers; its outputs have FILL. A sheet
-// agrees if its answer does, its outward gap does and is not above the exact one, and every place of every output does. A
-// line of any other form counts as a sheet that differs.
+// A sheet is put to `sheet_verdict` once. A slice goes by its place among those of `case_slices`. After them comes one that is
+// not handed over: the numbers of the sheet. A new sheet has 0 everywhere, but for the sizes among its numbers; its outputs
+// have FILL. A sheet agrees if its kept numbers do, its outward gap does and is not above the exact one, it is declined just
+// where both reckonings say so, and every place of every output agrees. A line of any other form counts as a sheet that differs.
 #![tactic(auto)]
 
 ghost use Rattle.std.specs.Prelude.{◌≤◌, length};
 
-use case_slices::{NUMBERS, Numbers, SLICES, Slice, Slices, outputs_alike};
-use certificate::Lists;
-use judgement::Proof;
-use kept::proof_of;
-use outward_sheet::outward_of;
-use sheet::Refusal;
+use case_slices::{NUMBERS, Numbers, SLICES, Slice, Slices};
+use sheet::{Lists, Refusal};
 use std::io;
 use tables::{Tally, bits_of, count, double_of, each_line, numbers};
+use verdict::{Verdict, sheet_verdict};
 
 // Bytes in a line, its end included.
 const LINE: usize = 138;
@@ -108,6 +105,8 @@ struct Case {
     lengths: [usize; SLICES],
     slices: Slices,
     written: Written,
+    // What was answered, once the sheet was run.
+    found: Option<Result<Verdict, Refusal>>,
     next: Next,
     sound: bool,
 }
@@ -127,18 +126,18 @@ struct Run {
     counts: Counts,
 }
 
-/// The answer of a sheet as it stands on a line, doubles as their patterns. All but the refusal is 0 where there is one.
-fn numbers_of(found: Result<Proof, Refusal>) -> [usize; 8] {
+/// The kept numbers of a sheet as they stand on a line, doubles as their patterns. All but the refusal is 0 where there is one.
+fn numbers_of(found: Result<Verdict, Refusal>) -> [usize; 8] {
     match found {
-        Ok(p) => [
+        Ok(v) => [
             0,
-            usize::from(p.holds),
-            bits_of(p.gap) as usize,
-            bits_of(p.allowance) as usize,
-            bits_of(p.cut) as usize,
-            p.zero_within_error,
-            p.multipliers_zeroed,
-            p.rows,
+            usize::from(v.proof.holds),
+            bits_of(v.proof.gap) as usize,
+            bits_of(v.proof.allowance) as usize,
+            bits_of(v.proof.cut) as usize,
+            v.proof.zero_within_error,
+            v.proof.multipliers_zeroed,
+            v.proof.rows,
         ],
         Err(refusal) => [u32::from(refusal) as usize, 0, 0, 0, 0, 0, 0, 0],
     }
@@ -277,6 +276,7 @@ impl Case {
             lengths: numbers.lengths(shape.widened),
             slices: Slices::ZERO,
             written: Written::new(),
+            found: None,
             next: Next::Nothing,
             sound: false,
         }
@@ -304,16 +304,8 @@ impl Case {
         true
     }
 
-    /// The outward gap of the sheet, whose outputs have the lengths that `answer` lends.
-    fn outward(&self) -> Result<f64, Refusal> {
-        outward_of(
-            &self.slices.lent(&self.numbers, &self.lengths),
-            outputs_alike(self.shape.outputs()),
-        )
-    }
-
-    /// The answer of the sheet. Keeps what its outputs have then.
-    fn answer(&mut self) -> Result<Proof, Refusal> {
+    /// The verdict on the sheet. Keeps it, and what the outputs have then.
+    fn answer(&mut self) -> Result<Verdict, Refusal> {
         let n = self.shape.outputs();
         let mut w = Written::new();
         let mut l = Lists {
@@ -323,8 +315,10 @@ impl Case {
             terms: &mut w.terms[..n],
         };
         let sheet = self.slices.lent(&self.numbers, &self.lengths);
-        let found = proof_of(&sheet, &mut l, &mut w.errors[..n]);
+        let widened = self.slices.records(&self.lengths);
+        let found = sheet_verdict(widened, &sheet, &mut l, &mut w.errors[..n]);
         self.written = w;
+        self.found = Some(found);
         found
     }
 }
@@ -339,14 +333,20 @@ fn values_of(a: &[usize; 8]) -> Option<&[usize]> {
     }
 }
 
-/// Whether an outward gap is the one on a line, and not above the exact one there, or −infinity.
-fn gap_agrees(found: Result<f64, Refusal>, a: [usize; 8]) -> bool {
-    let (refusal, gap) = match found {
-        Ok(gap) => (0, gap),
-        Err(refusal) => (u32::from(refusal) as usize, 0.0),
+/// Whether a verdict declines just where both reckonings say so.
+fn declines_rightly(v: Verdict) -> bool {
+    v.declined == (v.proof.holds & (0.0 < v.outward))
+}
+
+/// Whether an outward gap is the one on a line, and not above the exact one there, or −infinity, and the order is declined
+/// just where it and the kept numbers say so.
+fn gap_agrees(found: Result<Verdict, Refusal>, a: [usize; 8]) -> bool {
+    let (refusal, gap, sound) = match found {
+        Ok(v) => (0, v.outward, declines_rightly(v)),
+        Err(refusal) => (u32::from(refusal) as usize, 0.0, true),
     };
     let within = gap == f64::NEG_INFINITY || gap <= double_of(a[2] as u64);
-    refusal == a[0] && bits_of(gap) as usize == a[1] && within && a[3..] == [0; 5]
+    refusal == a[0] && bits_of(gap) as usize == a[1] && within && sound && a[3..] == [0; 5]
 }
 
 impl Counts {
@@ -430,8 +430,11 @@ impl Run {
         self.settle(rt, line, ok)
     }
 
-    /// Reckons outward a sheet whose gaps are on a line, if it was run just before.
+    /// Compares the outward gap of a sheet whose gaps are on a line, if it was run just before.
     fn compare_gaps(&mut self, rt: &impl Print, line: &[u8], a: [usize; 8]) -> io::Result<()> {
+        let Some(found) = self.case.found else {
+            return self.counts.refuse(rt, line);
+        };
         if self.case.next != Next::Gaps {
             return self.counts.refuse(rt, line);
         }
@@ -440,7 +443,7 @@ impl Run {
         } else {
             Next::Place(Output::High, 0)
         };
-        let ok = gap_agrees(self.case.outward(), a);
+        let ok = gap_agrees(found, a);
         self.settle(rt, line, ok)
     }
 

@@ -9,15 +9,16 @@ use lib.Dec.{eqb, leb}
 use lib.Ieee.{Float}
 use lib.ListN.{length, get_or}
 use Rattle.questions.specs.Limits.{most_rows, most_structurals, most_entries}
-use Rattle.sheet.specs.Sheet.{Sheet, variables}
-use Rattle.questions.specs.Places.{all_below}
+use Rattle.sheet.specs.Sheet.{Sheet, sheet, sizes_of, variables}
+use Rattle.loops.specs.Places.{all_below}
 use Rattle.questions.specs.Rows.{RowsLie}
 use Rattle.sheet.specs.Lengths.{rows_fit, variables_fit, outputs_fit, lengths_fit, lengths_fine}
 use Rattle.questions.specs.Questions.{sizes_fine, bounds_fine, tolerances_fine, all_finite, leaving_row_fine}
 use Rattle.questions.specs.RowQuestions.{rises_at, starts_fine, columns_fine, entries_fine}
-use Rattle.questions.specs.PlaceQuestions.{basis_fine, widened_fine}
+use Rattle.questions.specs.PlaceQuestions.{basis_fine}
+use Rattle.questions.specs.WidenedList.{widened_fine}
 use Rattle.sheet.specs.Answers.{ask, first_no, Accepted}
-use Rattle.questions.proofs.All.{Each, each, all_at}
+use Rattle.loops.proofs.All.{Each, each, all_at}
 
 -- ---- 2
 pub record SizesHold (rows structurals entries : ℕ) : Type 0 where
@@ -101,7 +102,6 @@ pub record LengthsHold (s : Sheet) : Type 0 where
   pub by_row : RowsHold s.rows s.entry_count s.starts s.columns s.entries s.right_sides s.scales s.rho_hi s.rho_lo s.second
   pub by_variable : VariablesHold (variables s) s.mins s.maxs s.low_tolerances s.high_tolerances s.basic s.places s.values
   pub integer_long : length s.integer ≡ s.structurals
-  pub widened_long : length s.widened_ups ≡ length s.widened_variables
   pub outputs_do_fit : outputs_fit (variables s) s.outputs ≡ true
 
 pub lengths_hold : (s : Sheet) → lengths_fine s ≡ true → LengthsHold s
@@ -109,13 +109,12 @@ unfolding lengths_fit
 lengths_hold s e =
     let rowsPart = rows_fit s.rows s.entry_count s.starts s.columns s.entries s.right_sides s.scales s.rho_hi s.rho_lo s.second in
     let variablesPart = variables_fit (variables s) s.mins s.maxs s.low_tolerances s.high_tolerances s.basic s.places s.values in
-    let h = each rowsPart (variablesPart ∷ eqb (length s.integer) s.structurals ∷ eqb (length s.widened_ups) (length s.widened_variables) ∷ outputs_fit (variables s) s.outputs ∷ []) e in
+    let h = each rowsPart (variablesPart ∷ eqb (length s.integer) s.structurals ∷ outputs_fit (variables s) s.outputs ∷ []) e in
     record {
       by_row = rows_hold s.rows s.entry_count s.starts s.columns s.entries s.right_sides s.scales s.rho_hi s.rho_lo s.second h.0;
       by_variable = variables_hold (variables s) s.mins s.maxs s.low_tolerances s.high_tolerances s.basic s.places s.values h.1.0;
       integer_long = eqb-true (length s.integer) s.structurals h.1.1.0;
-      widened_long = eqb-true (length s.widened_ups) (length s.widened_variables) h.1.1.1.0;
-      outputs_do_fit = h.1.1.1.1.0;
+      outputs_do_fit = h.1.1.1.0;
     }
 
 -- ---- 4: the rows' parts lie within lists of n
@@ -146,7 +145,7 @@ pub record AllYes (s : Sheet) : Type 0 where
   pub tolerances_are_fine : tolerances_fine s.feasibility s.scales s.low_tolerances s.high_tolerances ≡ true
   pub basis_is_fine : basis_fine s.rows s.basic s.places ≡ true
   pub values_fine : all_finite s.values ≡ true
-  pub widened_is_fine : widened_fine (variables s) s.widened_variables s.widened_ups ≡ true
+  pub widened_is_fine : widened_fine (variables s) s.widened ≡ true
   pub leaving_fine : leaving_row_fine s.rows s.leaving_row ≡ true
 
 -- no question but the first "no" gives a number
@@ -167,7 +166,7 @@ all_yes s e =
     let a8 = asked (tolerances_fine s.feasibility s.scales s.low_tolerances s.high_tolerances) 7 _ a7.1 in
     let a9 = asked (basis_fine s.rows s.basic s.places) 8 _ a8.1 in
     let a10 = asked (all_finite s.values) 9 _ a9.1 in
-    let a11 = asked (widened_fine (variables s) s.widened_variables s.widened_ups) 10 _ a10.1 in
+    let a11 = asked (widened_fine (variables s) s.widened) 10 _ a10.1 in
     let a12 = asked (leaving_row_fine s.rows s.leaving_row) 11 _ a11.1 in
     record {
       sizes_are_fine = a2.0;
@@ -201,3 +200,29 @@ accepted s y =
       y.leaving_fine,
     )
     refl
+
+-- ---- the same with no widened item
+abbrev pub bare : Sheet → Sheet
+bare s =
+    sheet (sizes_of s) s.feasibility s.checked s.leaving_row s.leaving_up s.outputs s.starts s.columns s.entries s.right_sides s.scales s.integer
+    s.mins s.maxs s.low_tolerances s.high_tolerances s.basic s.places s.values [] s.rho_hi s.rho_lo s.second
+
+-- no other question reads the widened list
+pub accepted_bare : (s : Sheet) → Accepted s → Accepted (bare s)
+unfolding widened_fine
+accepted_bare s e =
+    let y = all_yes s e in
+    accepted (bare s)
+    (record {
+      sizes_are_fine = y.sizes_are_fine;
+      lengths_are_fine = y.lengths_are_fine;
+      starts_are_fine = y.starts_are_fine;
+      columns_are_fine = y.columns_are_fine;
+      entries_are_fine = y.entries_are_fine;
+      bounds_are_fine = y.bounds_are_fine;
+      tolerances_are_fine = y.tolerances_are_fine;
+      basis_is_fine = y.basis_is_fine;
+      values_fine = y.values_fine;
+      widened_is_fine = refl;
+      leaving_fine = y.leaving_fine;
+    })

@@ -2,6 +2,6 @@
 use mathlib.Core.Path.{◌≡◌, refl}
 use mathlib.Core.Bool.{Bool, ◌&&◌}
 
--- five tests in a row
-pub together : (c d : Bool) {a b e a' b' e' : Bool} → a ≡ a' → b ≡ b' → e ≡ e' → (a && b && c && d && e) ≡ (a' && b' && c && d && e')
-together c d first second fifth = rw (first, second, fifth) refl
+-- four tests in a row
+pub together : (c : Bool) {a b d a' b' d' : Bool} → a ≡ a' → b ≡ b' → d ≡ d' → (a && b && c && d) ≡ (a' && b' && c && d')
+together c first second fourth = rw (first, second, fourth) refl

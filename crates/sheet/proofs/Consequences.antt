@@ -14,12 +14,12 @@ use Rattle.exact.proofs.Compare.{le_no_nan}
 use Rattle.exact.specs.Value.{sign}
 use Rattle.exact.proofs.Naturals.{le_or_lt}
 use Rattle.sheet.specs.Sheet.{Sheet, variables}
-use Rattle.questions.specs.Places.{all_below}
+use Rattle.loops.specs.Places.{all_below}
 use Rattle.questions.specs.BasisPlaces.{holds_place, holders}
 use Rattle.questions.specs.Questions.{finite_at, all_finite, range_fine, range_fine_at, bounds_fine, plain, plain_at, all_plain, product_finite_at, tolerances_fine, leaving_row_fine}
 use Rattle.questions.specs.RowQuestions.{slack_entry_fine_at, entries_fine}
 use Rattle.questions.specs.PlaceQuestions.{place_fine_at, held_once_at, basis_fine}
-use Rattle.questions.proofs.All.{Each, each, and_left, and_right, all_at}
+use Rattle.loops.proofs.All.{Each, each, and_left, and_right, all_at}
 use Rattle.questions.proofs.Tests.{passes}
 use Rattle.sheet.proofs.Accepted.{RowsHold, VariablesHold, LengthsHold, lengths_hold, AllYes}
 

@@ -1,6 +1,6 @@
 -- Document 01, "Questions put to the input", the third. Assumes nothing.
 use Rattle.std.specs.Prelude.{Bool, ◌&&◌, List, ℕ, ◌+◌, leb, eqb, length, Float}
-use Rattle.sheet.specs.declared.answers.Outputs.{Outputs}
+use Rattle.sheet.specs.declared.outputs.Outputs.{Outputs}
 use Rattle.sheet.specs.Sheet.{Sheet, Sizes, sizes_of}
 
 -- ---- 3. "Does each slice have the length these need, …, second corrections … also when unchecked", those that go by rows and entries
@@ -35,20 +35,19 @@ outputs_fit count outputs =
     && leb count outputs.terms
     && leb count outputs.errors
 
--- all slices; each widened item has its side
+-- all slices
 unfoldable pub lengths_fit :
     Sizes → Outputs → List ℕ → List ℕ → List Float → List Float → List Float → List ℕ → List Float → List Float → List Float → List Float
-    → List ℕ → List ℕ → List Float → List ℕ → List ℕ → List Float → List Float → List Float → Bool
-lengths_fit sizes outputs starts columns entries right_sides scales integer mins maxs low_tolerances high_tolerances basic places values widened_variables widened_ups rho_hi rho_lo second =
+    → List ℕ → List ℕ → List Float → List Float → List Float → List Float → Bool
+lengths_fit sizes outputs starts columns entries right_sides scales integer mins maxs low_tolerances high_tolerances basic places values rho_hi rho_lo second =
     let count = sizes.structurals + sizes.rows in
     rows_fit sizes.rows sizes.entries starts columns entries right_sides scales rho_hi rho_lo second
     && variables_fit count mins maxs low_tolerances high_tolerances basic places values
     && eqb (length integer) sizes.structurals
-    && eqb (length widened_ups) (length widened_variables)
     && outputs_fit count outputs
 
 -- of a sheet
 abbrev pub lengths_fine : Sheet → Bool
 lengths_fine s =
     lengths_fit (sizes_of s) s.outputs s.starts s.columns s.entries s.right_sides s.scales s.integer s.mins s.maxs
-    s.low_tolerances s.high_tolerances s.basic s.places s.values s.widened_variables s.widened_ups s.rho_hi s.rho_lo s.second
+    s.low_tolerances s.high_tolerances s.basic s.places s.values s.rho_hi s.rho_lo s.second

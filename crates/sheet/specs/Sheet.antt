@@ -2,13 +2,17 @@
 use Rattle.std.specs.Prelude.{List, ℕ, ◌+◌, T, get_or, Float}
 use Rattle.std.specs.Float.{nan, binary64}
 use Rattle.std.specs.Float.Ieee.{fits}
-use Rattle.sheet.specs.declared.answers.Outputs.{Outputs}
+use Rattle.questions.specs.declared.widened.Widened.{Widened}
+use Rattle.sheet.specs.declared.outputs.Outputs.{Outputs}
 
 -- how many rows, structural variables and entries there are
 pub record Sizes : Type 0 where
   pub rows : ℕ
   pub structurals : ℕ
   pub entries : ℕ
+
+abbrev pub sizes : ℕ → ℕ → ℕ → Sizes
+sizes rows structurals entries = record { rows = rows; structurals = structurals; entries = entries }
 
 pub record Sheet : Type 0 where
   -- how many rows, structural variables and entries there are
@@ -35,9 +39,8 @@ pub record Sheet : Type 0 where
   pub basic : List ℕ
   pub places : List ℕ
   pub values : List Float
-  -- the widened list: variables and sides, a flag that is set for up
-  pub widened_variables : List ℕ
-  pub widened_ups : List ℕ
+  -- "one list of variable and side", a flag that is set for up
+  pub widened : List Widened
   -- whether the multipliers are checked, a flag; of each row: rho, and its second correction
   pub checked : ℕ
   pub rho_hi : List Float
@@ -52,10 +55,10 @@ pub record Sheet : Type 0 where
 -- the one place where a sheet is made from what is lent
 abbrev pub sheet :
     Sizes → Float → ℕ → ℕ → ℕ → Outputs → List ℕ → List ℕ → List Float → List Float → List Float → List ℕ → List Float → List Float
-    → List Float → List Float → List ℕ → List ℕ → List Float → List ℕ → List ℕ → List Float → List Float → List Float → Sheet
+    → List Float → List Float → List ℕ → List ℕ → List Float → List Widened → List Float → List Float → List Float → Sheet
 sheet
     sizes feasibility checked leaving_row leaving_up outputs starts columns entries right_sides scales integer mins maxs low_tolerances
-    high_tolerances basic places values widened_variables widened_ups rho_hi rho_lo second =
+    high_tolerances basic places values widened rho_hi rho_lo second =
     record {
       rows = sizes.rows;
       structurals = sizes.structurals;
@@ -74,8 +77,7 @@ sheet
       basic = basic;
       places = places;
       values = values;
-      widened_variables = widened_variables;
-      widened_ups = widened_ups;
+      widened = widened;
       checked = checked;
       rho_hi = rho_hi;
       rho_lo = rho_lo;
@@ -87,7 +89,7 @@ sheet
 
 -- its sizes
 abbrev pub sizes_of : Sheet → Sizes
-sizes_of s = record { rows = s.rows; structurals = s.structurals; entries = s.entry_count }
+sizes_of s = sizes s.rows s.structurals s.entry_count
 
 -- "Variables here include the slacks"
 abbrev pub variables : Sheet → ℕ

@@ -1,22 +1,13 @@
 //! What is asked of the sheet's sizes and lengths, and the answers.
-ghost use Rattle.std.specs.Prelude.{◌≡◌, ◌+◌, ◌≤◌};
+ghost use Rattle.std.specs.Prelude.{◌≡◌, List, ◌+◌, ◌≤◌};
 ghost use Rattle.questions.specs.Limits.{most_rows, most_structurals};
 ghost use Rattle.sheet.specs.Lengths.{lengths_fine, outputs_fit, rows_fit, variables_fit};
 ghost use Rattle.sheet.specs.Lent.{lent_sheet};
 ghost use Rattle.questions.specs.Questions.{sizes_fine};
+ghost use Rattle.questions.specs.declared.widened.Widened.{Widened};
 
-use crate::lent::Sheet;
+use crate::{Outputs, Sheet};
 use questions::{MOST_ENTRIES, MOST_ROWS, MOST_STRUCTURALS};
-
-/// How many places each lent output has.
-#[derive(Clone, Copy)]
-pub struct Outputs {
-    pub high: usize,
-    pub low: usize,
-    pub magnitudes: usize,
-    pub terms: usize,
-    pub errors: usize,
-}
 
 /// The second question.
 pub fn sizes_fine(s: &Sheet) -> bool
@@ -71,12 +62,11 @@ fn outputs_fit(count: usize, outputs: Outputs) -> bool
 /// The third question.
 pub fn lengths_fine(s: &Sheet, outputs: Outputs) -> bool
     requires { (s.now.rows ≤ most_rows) × (s.now.structurals ≤ most_structurals) }
-    ensures { result ≡ lengths_fine (lent_sheet s.now outputs) }
+    ensures { (widened : List Widened) → result ≡ lengths_fine (lent_sheet s.now widened outputs) }
 {
     let count = s.structurals + s.rows;
     rows_fit(s)
         & variables_fit(s, count)
         & (s.integer.len() == s.structurals)
-        & (s.widened_ups.len() == s.widened_variables.len())
         & outputs_fit(count, outputs)
 }

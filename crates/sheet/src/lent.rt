@@ -1,7 +1,8 @@
 //! The sheet as it is lent.
 
 // Kept: a slice for each list, and flags that are bytes, set unless 0, since the C interface lends them so; a `bool` or structs in slices would ask more of callers.
-/// The sheet: one field for each number and each lent slice. What each means stands at the fields of the same names in specs/Sheet.antt.
+/// The sheet but its widened list: one field for each number and each lent slice. What each means stands at the fields of the same names
+/// in specs/Sheet.antt.
 #[derive(Clone, Copy)]
 pub struct Sheet<'a> {
     pub rows: usize,
@@ -24,8 +25,6 @@ pub struct Sheet<'a> {
     pub basic: &'a [u8],
     pub places: &'a [usize],
     pub values: &'a [f64],
-    pub widened_variables: &'a [usize],
-    pub widened_ups: &'a [u8],
     pub rho_hi: &'a [f64],
     pub rho_lo: &'a [f64],
     pub second: &'a [f64],

@@ -1,5 +1,7 @@
 //! The numbers of a lent sheet are doubles.
-ghost use Rattle.sheet.specs.declared.answers.Outputs.{Outputs};
+ghost use Rattle.std.specs.Prelude.{List};
+ghost use Rattle.questions.specs.declared.widened.Widened.{Widened};
+ghost use Rattle.sheet.specs.declared.outputs.Outputs.{Outputs};
 ghost use Rattle.sheet.specs.Lent.{lent_sheet};
 ghost use Rattle.sheet.specs.Sheet.{AllDoubles, Doubles};
 
@@ -10,9 +12,9 @@ fn slice_of_doubles(xs: &[f64])
     ensures { AllDoubles xs.now }
 {}
 
-/// So are those of the sheet, however many places are lent for outputs.
+/// So are those of the sheet, whatever its widened list is and however many places are lent for outputs.
 pub fn sheet_of_doubles(s: &Sheet)
-    ensures { (outputs : Outputs) → Doubles (lent_sheet s.now outputs) }
+    ensures { (widened : List Widened) (outputs : Outputs) → Doubles (lent_sheet s.now widened outputs) }
 {
     slice_of_doubles(s.entries);
     slice_of_doubles(s.right_sides);

@@ -1,4 +1,4 @@
-//! The sheet that the counter lends, the questions of its sizes and lengths, and all questions in document 01's order.
+//! The sheet that the counter lends and its outputs, the questions of its sizes and lengths, and all questions in document 01's order.
 
 #![tactic(auto)]
 
@@ -7,9 +7,10 @@ mod in_order;
 mod lent;
 mod lent_doubles;
 mod numbers;
+mod outputs;
 
-pub use answers::{Outputs, lengths_fine, sizes_fine};
 pub use in_order::first_no;
 pub use lent::Sheet;
 pub use lent_doubles::sheet_of_doubles;
 pub use numbers::Refusal;
+pub use outputs::{Lists, Outputs, outputs_of};

@@ -15,7 +15,7 @@ follows = refl
 
 says : sheet_in text
     ≡ sheet (record { rows = 1; structurals = 1; entries = 2 }) zero 0 0 0 lent_outputs (0 ∷ 2 ∷ []) (0 ∷ 1 ∷ []) (one ∷ one ∷ []) (three ∷ []) (one ∷ []) (1 ∷ [])
-    (zero ∷ zero ∷ []) (one ∷ zero ∷ []) (zero ∷ zero ∷ []) (zero ∷ zero ∷ []) (0 ∷ 1 ∷ []) (0 ∷ 0 ∷ []) (one ∷ two ∷ []) [] [] (one ∷ []) (zero ∷ []) (zero ∷ [])
+    (zero ∷ zero ∷ []) (one ∷ zero ∷ []) (zero ∷ zero ∷ []) (zero ∷ zero ∷ []) (0 ∷ 1 ∷ []) (0 ∷ 0 ∷ []) (one ∷ two ∷ []) [] (one ∷ []) (zero ∷ []) (zero ∷ [])
 unfolding sheet_on_literals
 says = refl
 

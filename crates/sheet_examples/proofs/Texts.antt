@@ -14,9 +14,8 @@ use Rattle.text_lines.specs.RowLines.{row_head, pair}
 use Rattle.text_lines.specs.SidedLines.{sided_line}
 use Rattle.text_lines.specs.MultiplierLines.{multipliers_line, second_if, rho_line}
 use Rattle.text_lists.specs.Rows.{pairs_reached, row_pairs, row_line}
-use Rattle.text_lists.specs.Widened.{widened_reached}
-use Rattle.sheet_text.specs.Parts.{structural_lines_in, variable_lines_in, row_lines_in, pairs_in, widened_lines_in, rho_lines_in}
-use Rattle.sheet_text.specs.Parts.{rows_from, rows_reached_in, widened_reached_in, multipliers_in, leave_in}
+use Rattle.sheet_text.specs.Parts.{structural_lines_in, variable_lines_in, row_lines_in, pairs_in, widened_in, rho_lines_in}
+use Rattle.sheet_text.specs.Parts.{rows_from, rows_reached_in, widened_end_in, multipliers_in, leave_in}
 use Rattle.sheet_text.specs.Form.{read_in, follows_form}
 use Rattle.sheet_text.specs.SheetIn.{sheet_in}
 
@@ -66,9 +65,9 @@ unfolding digit_at digits at_least_one number double expect either heading place
 line_on_literals = tt
 
 unfoldable pub lists_on_literals : ⊤
-unfolding run after gather chain chain_end pairs_reached row_line row_pairs widened_reached structural_lines_in variable_lines_in row_lines_in pairs_in widened_lines_in rho_lines_in
+unfolding run after gather chain chain_end pairs_reached row_line row_pairs structural_lines_in variable_lines_in row_lines_in pairs_in widened_in rho_lines_in
 lists_on_literals = tt
 
 unfoldable pub sheet_on_literals : ⊤
-unfolding line_on_literals lists_on_literals rows_from rows_reached_in widened_reached_in multipliers_in leave_in read_in sheet_in follows_form
+unfolding line_on_literals lists_on_literals rows_from rows_reached_in widened_end_in multipliers_in leave_in read_in sheet_in follows_form
 sheet_on_literals = tt

@@ -1,5 +1,5 @@
 -- What a text says has the lengths that the third question asks for: where the second question's answer is yes, so is the third's. Assumes nothing.
-use mathlib.Core.Path.{◌≡◌, refl, sym, ap, ◌∙◌}
+use mathlib.Core.Path.{◌≡◌, sym, ap, ◌∙◌}
 use mathlib.Core.Bool.{Bool, true, ◌&&◌}
 use mathlib.Core.List.{List, map}
 use Prim.Native.Nat.{ℕ, suc, ◌+◌, ◌≤◌}
@@ -9,7 +9,7 @@ use borrow.Author.Tests.{eq-eqb, le-leb}
 use lib.Dec.{eqb}
 use lib.ListN.{length, length-map}
 use lib.Ieee.{Float}
-use Rattle.questions.specs.Limits.{most_rows, most_structurals}
+use Rattle.questions.specs.Limits.{most_variables}
 use Rattle.questions.specs.Questions.{sizes_fine}
 use Rattle.sheet.specs.Lengths.{rows_fit, variables_fit, outputs_fit, lengths_fit, lengths_fine}
 use Rattle.sheet.proofs.Accepted.{sizes_hold, RowsHold, VariablesHold}
@@ -18,10 +18,9 @@ use Rattle.text_lines.specs.Heading.{heading}
 use Rattle.text_lines.specs.VariableLines.{line_at}
 use Rattle.text_lists.specs.Variables.{after_variable}
 use Rattle.text_lists.specs.Rows.{row_at, after_row}
-use Rattle.text_lists.specs.Widened.{widened_reached}
 use Rattle.text_lists.specs.Multipliers.{rho_at, after_rho}
 use Rattle.text_lists.proofs.Reaching.{rows-count}
-use Rattle.sheet_text.specs.Parts.{structural_lines_in, variable_lines_in, rows_from, row_lines_in, pairs_in, rows_reached_in, widened_lines_in, widened_reached_in, rho_lines_in}
+use Rattle.sheet_text.specs.Parts.{structural_lines_in, variable_lines_in, rows_from, row_lines_in, pairs_in, rows_reached_in, rho_lines_in}
 use Rattle.sheet_text.specs.Form.{read_in}
 use Rattle.sheet_text.specs.SheetIn.{lent_outputs, sheet_in}
 
@@ -55,12 +54,12 @@ variables_do_fit count mins maxs low high basic places values h =
       eq-eqb _ _ h.values_long,
     )
 
-outputs_do_fit : (count : ℕ) → count ≤ most_structurals + most_rows → outputs_fit count lent_outputs ≡ true
+outputs_do_fit : (count : ℕ) → count ≤ most_variables → outputs_fit count lent_outputs ≡ true
 unfolding outputs_fit
-outputs_do_fit count h = rw (le-leb count (most_structurals + most_rows) h)
+outputs_do_fit count h = rw (le-leb count most_variables h)
 
-all_five : {a b c d e : Bool} → a ≡ true → b ≡ true → c ≡ true → d ≡ true → e ≡ true → (a && b && c && d && e) ≡ true
-all_five h i j k l = rw (h, i, j, k, l)
+all_four : {a b c d : Bool} → a ≡ true → b ≡ true → c ≡ true → d ≡ true → (a && b && c && d) ≡ true
+all_four h i j k = rw (h, i, j, k)
 
 -- ---- how long the lists of a text are
 pub as_long : {R A : Type 0} (f : R → A) (things : List R) {n : ℕ} → length things ≡ n → length (map f things) ≡ n
@@ -82,10 +81,6 @@ module _ (text : List ℕ) where
   pub pairs-long : length (pairs_in text) ≡ (read_in text).entries
   unfolding pairs_in read_in rows_reached_in
   pairs-long = sym (rows-count text (heading text).rows (rows_from text))
-
-  pub widened_long : length (widened_lines_in text) ≡ (read_in text).widened
-  unfolding widened_lines_in read_in widened_reached_in widened_reached
-  widened_long = refl
 
   pub rhos_long : length (rho_lines_in text) ≡ (read_in text).rows
   unfolding rho_lines_in read_in
@@ -124,10 +119,6 @@ module _ (text : List ℕ) where
   unfolding sheet_in
   integer_long = eq-eqb _ _ (as_long _ (structural_lines_in text) structurals_long)
 
-  sides_long : eqb (length (sheet_in text).widened_ups) (length (sheet_in text).widened_variables) ≡ true
-  unfolding sheet_in
-  sides_long = eq-eqb _ _ (as_long _ (widened_lines_in text) refl ∙ sym (as_long _ (widened_lines_in text) refl))
-
   outputs_hold : sizes_fine (sheet_in text).rows (sheet_in text).structurals (sheet_in text).entry_count ≡ true
       → outputs_fit ((sheet_in text).structurals + (sheet_in text).rows) (sheet_in text).outputs ≡ true
   unfolding sheet_in
@@ -139,4 +130,4 @@ module _ (text : List ℕ) where
   pub lengths_are_fine : sizes_fine (sheet_in text).rows (sheet_in text).structurals (sheet_in text).entry_count ≡ true → lengths_fine (sheet_in text) ≡ true
   unfolding lengths_fit
   lengths_are_fine e =
-      all_five (rows_do_fit _ _ _ _ _ _ _ _ _ _ rows_hold) (variables_do_fit _ _ _ _ _ _ _ _ variables_hold) integer_long sides_long (outputs_hold e)
+      all_four (rows_do_fit _ _ _ _ _ _ _ _ _ _ rows_hold) (variables_do_fit _ _ _ _ _ _ _ _ variables_hold) integer_long (outputs_hold e)

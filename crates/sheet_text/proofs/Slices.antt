@@ -8,7 +8,7 @@ use borrow.Author.Tests.{leb-true, eqb-true}
 use lib.Dec.{leb, eqb}
 use lib.ListN.{length, get_or, take}
 use Rattle.std.specs.Prelude.{Option, None, Some}
-use Rattle.questions.proofs.All.{and_left, and_right}
+use Rattle.loops.proofs.All.{and_left, and_right}
 use Rattle.repeats.specs.Filled.{column, filled_from}
 use Rattle.repeats.proofs.Fronts.{whole_front, behind_first}
 use Rattle.text_items.specs.Words.{most_bytes}

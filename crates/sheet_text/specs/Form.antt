@@ -4,7 +4,7 @@ use mir.Val.{bool_byte}
 use Rattle.text_items.specs.Words.{most_bytes}
 use Rattle.text_lines.specs.Heading.{heading}
 use Rattle.sheet_text.specs.declared.Read.{Read}
-use Rattle.sheet_text.specs.Parts.{rows_reached_in, widened_reached_in, multipliers_in, leave_in}
+use Rattle.sheet_text.specs.Parts.{rows_reached_in, multipliers_in, leave_in}
 
 -- what a text says apart from its lists, and where its last line ends
 unfoldable pub read_in : List ℕ → Read
@@ -13,7 +13,6 @@ read_in text =
       rows = (heading text).rows;
       structurals = (heading text).structurals;
       entries = (rows_reached_in text).count;
-      widened = (widened_reached_in text).count;
       feasibility = (heading text).feasibility;
       checked = bool_byte (multipliers_in text).value;
       leaving_row = (leave_in text).number;

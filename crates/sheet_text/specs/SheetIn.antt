@@ -1,26 +1,25 @@
 -- The sheet that a text says: document 01, "The sheet". Assumes nothing.
-use Rattle.std.specs.Prelude.{List, ◌∷◌, map, ℕ, ◌+◌}
+use Rattle.std.specs.Prelude.{List, ◌∷◌, map, ℕ}
 use mir.Val.{bool_byte}
-use Rattle.questions.specs.Limits.{most_rows, most_structurals}
-use Rattle.sheet.specs.declared.answers.Outputs.{Outputs}
+use Rattle.questions.specs.Limits.{most_variables}
+use Rattle.sheet.specs.declared.outputs.Outputs.{Outputs}
 use Rattle.sheet.specs.Sheet.{Sheet, sheet}
 use Rattle.text_lines.specs.declared.variable_lines.VariableLine.{VariableLine}
 use Rattle.text_lines.specs.declared.row_items.Pair.{Pair}
-use Rattle.text_lines.specs.declared.sided_lines.SidedLine.{SidedLine}
 use Rattle.text_lines.specs.declared.multiplier_lines.RhoLine.{RhoLine}
 use Rattle.text_lists.specs.declared.row_lists.RowLine.{RowLine}
-use Rattle.sheet_text.specs.Parts.{structural_lines_in, variable_lines_in, row_lines_in, pairs_in, widened_lines_in, rho_lines_in}
+use Rattle.sheet_text.specs.Parts.{structural_lines_in, variable_lines_in, row_lines_in, pairs_in, widened_in, rho_lines_in}
 use Rattle.sheet_text.specs.Form.{read_in}
 
 -- what is lent for the certificate of a text: a place for every variable that a sheet may have
 abbrev pub lent_outputs : Outputs
 lent_outputs =
     record {
-      high = most_structurals + most_rows;
-      low = most_structurals + most_rows;
-      magnitudes = most_structurals + most_rows;
-      terms = most_structurals + most_rows;
-      errors = most_structurals + most_rows;
+      high = most_variables;
+      low = most_variables;
+      magnitudes = most_variables;
+      terms = most_variables;
+      errors = most_variables;
     }
 
 -- the sheet; a row's entries start where those of the row before end
@@ -30,7 +29,6 @@ sheet_in text =
     let variables = variable_lines_in text in
     let rows = row_lines_in text in
     let pairs = pairs_in text in
-    let widened = widened_lines_in text in
     let rhos = rho_lines_in text in
     sheet
     (record { rows = read.rows; structurals = read.structurals; entries = read.entries })
@@ -52,8 +50,7 @@ sheet_in text =
     (map (λ (line : VariableLine). bool_byte line.basic) variables)
     (map (λ (line : VariableLine). line.place) variables)
     (map (λ (line : VariableLine). line.value) variables)
-    (map (λ (line : SidedLine). line.number) widened)
-    (map (λ (line : SidedLine). bool_byte line.up) widened)
+    (widened_in text)
     (map (λ (line : RhoLine). line.hi) rhos)
     (map (λ (line : RhoLine). line.lo) rhos)
     (map (λ (line : RhoLine). line.second) rhos)

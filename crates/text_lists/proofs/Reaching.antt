@@ -5,19 +5,10 @@ use Prim.Native.Nat.{ℕ, ◌+◌}
 use Rattle.std.specs.Prelude.{Option}
 use native.Mathlib.Omega.{arith}
 use lib.ListN.{length}
-use Rattle.repeats.specs.Chained.{chain_end}
 use Rattle.repeats.proofs.Gathers.{gather_counts}
-use Rattle.text_items.specs.Words.{most_bytes}
-use Rattle.text_lines.specs.SidedLines.{no_widened, widened_line}
-use Rattle.text_lists.specs.declared.widened_list.Reached.{Reached}
+use Rattle.text_lists.specs.declared.row_lists.Reached.{Reached}
 use Rattle.text_lists.specs.declared.row_lists.RowLine.{RowLine}
-use Rattle.text_lists.specs.Widened.{after_widened, widened_lines, widened_reached}
 use Rattle.text_lists.specs.Rows.{pairs, pairs_end, pairs_reached, row_pairs, row_line, row_at, after_row, pairs_at, no_pair_yet, rows_pairs, rows_reached}
-
-pub widened_reached_lem : (text : List ℕ) (position : Option ℕ) {count : ℕ} {next : Option ℕ} → count ≡ 0 + length (widened_lines text position)
-    → next ≡ chain_end (no_widened text) (widened_line text) after_widened most_bytes position → record { count = count; next = next } ≡ widened_reached text position
-unfolding widened_reached
-widened_reached_lem text position h e = let k : 0 + length (widened_lines text position) ≡ length (widened_lines text position) = omega arith in rw (h, e, k)
 
 pub pairs_reached_lem : (text : List ℕ) (first : ℕ) (position : Option ℕ) {count : ℕ} {next : Option ℕ} → count ≡ first + length (pairs text first position)
     → next ≡ pairs_end text first position → record { count = count; next = next } ≡ pairs_reached text first position

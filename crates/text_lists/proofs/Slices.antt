@@ -1,9 +1,8 @@
 -- The same references, over two calls. Assumes nothing.
 use mathlib.Core.Path.{◌∙◌}
 use Rattle.text_lists.specs.declared.lent.RowLists.{RowLists as RowSlices}
-use Rattle.text_lists.specs.declared.lent.WidenedLists.{WidenedLists as WidenedSlices}
 use Rattle.text_lists.specs.declared.lent.RhoLists.{RhoLists as RhoSlices}
-use Rattle.text_lists.specs.Lent.{SameRows, SameWidened, SameRhos}
+use Rattle.text_lists.specs.Lent.{SameRows, SameRhos}
 
 pub rows_then : {l k j : RowSlices} → SameRows l k → SameRows k j → SameRows l j
 rows_then a b =
@@ -14,9 +13,6 @@ rows_then a b =
       columns_is = b.columns_is ∙ a.columns_is;
       entries_is = b.entries_is ∙ a.entries_is;
     }
-
-pub widened_then : {l k j : WidenedSlices} → SameWidened l k → SameWidened k j → SameWidened l j
-widened_then a b = record { variables_is = b.variables_is ∙ a.variables_is; ups_is = b.ups_is ∙ a.ups_is }
 
 pub rhos_then : {l k j : RhoSlices} → SameRhos l k → SameRhos k j → SameRhos l j
 rhos_then a b = record { rho_hi_is = b.rho_hi_is ∙ a.rho_hi_is; rho_lo_is = b.rho_lo_is ∙ a.rho_lo_is; second_is = b.second_is ∙ a.second_is }

@@ -14,13 +14,15 @@ use Rattle.repeats.specs.Counted.{run, gather}
 use Rattle.repeats.specs.Filled.{filled_from}
 use Rattle.repeats.proofs.Stores.{step_left, sets_append}
 use Rattle.repeats.proofs.Chains.{Over, chain_counts_end}
-use mir.Val.{bool_byte}
+use Rattle.questions.specs.declared.widened.Marks.{Marks}
+use Rattle.questions.specs.Marks.{noted, marks_from}
 use Rattle.text_lines.specs.declared.row_items.Pair.{Pair}
 use Rattle.text_lines.specs.declared.sided_lines.SidedLine.{SidedLine}
 use Rattle.text_lines.specs.declared.multiplier_lines.RhoLine.{RhoLine}
 use Rattle.text_lists.specs.declared.row_lists.RowLine.{RowLine}
-use Rattle.text_lists.specs.declared.widened_list.Reached.{Reached}
-use Rattle.text_lists.specs.Lent.{RowLists, with_pair, with_pairs, with_row, with_rows, WidenedLists, with_widened_line, RhoLists, with_rho}
+use Rattle.text_lists.specs.declared.row_lists.Reached.{Reached}
+use Rattle.text_lists.specs.Lent.{RowLists, with_pair, with_pairs, with_row, with_rows, RhoLists, with_rho}
+use Rattle.text_lists.specs.Widened.{item}
 use Rattle.text_lists.specs.Rows.{row_at, after_row, pairs_at, row_lines, rows_pairs, no_pair_yet}
 
 -- `stored` stores things from a place on, as `store` does one after the other
@@ -112,19 +114,17 @@ module _ (text : List ℕ) (n : ℕ) where
         let none : rest i σ l ≡ l = rw z refl in
         sym (t.is ∙ none)
 
--- ---- pairs, widened lines and multipliers
+-- ---- pairs, marks of the widened lines, and multipliers
 pub pairs_store : Stores with_pair with_pairs
 pairs_store = record { none = λ i l. refl; one = λ i r rs l. refl }
 
-abbrev pub widened_from : ℕ → List SidedLine → WidenedLists → WidenedLists
-widened_from i lines l =
-    record {
-      variables = filled_from i (λ (line : SidedLine). line.number) lines l.variables;
-      ups = filled_from i (λ (line : SidedLine). bool_byte line.up) lines l.ups;
-    }
+-- a mark has its own place, wherever its line stands
+abbrev pub marked_from : ℕ → ℕ → List SidedLine → Marks → Marks
+marked_from count i lines m = marks_from count m (map item lines)
 
-pub widened_store : Stores with_widened_line widened_from
-widened_store = record { none = λ i l. refl; one = λ i r rs l. refl }
+pub widened_store : (count : ℕ) → Stores (λ i line m. noted count (item line) m) (marked_from count)
+unfolding marks_from
+widened_store count = record { none = λ i m. refl; one = λ i line lines m. refl }
 
 abbrev pub rhos_from : ℕ → List RhoLine → RhoLists → RhoLists
 rhos_from i lines l =

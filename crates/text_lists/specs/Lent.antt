@@ -1,13 +1,9 @@
--- The lists of the code's `RowLists`, `WidenedLists` and `RhoLists`, each under its own name, and the lists after lines are stored.
--- Assumes nothing.
+-- The lists of the code's `RowLists` and `RhoLists`, each under its own name, and the lists after lines are stored. Assumes nothing.
 use Rattle.std.specs.Prelude.{◌≡◌, ◌+◌, set, List, ℕ, Float}
-use mir.Val.{bool_byte}
 use Rattle.repeats.specs.Filled.{column, filled_from}
 use Rattle.text_lines.specs.declared.row_items.Pair.{Pair}
-use Rattle.text_lines.specs.declared.sided_lines.SidedLine.{SidedLine}
 use Rattle.text_lines.specs.declared.multiplier_lines.RhoLine.{RhoLine}
 use Rattle.text_lists.specs.declared.lent.RowLists.{RowLists as RowSlices}
-use Rattle.text_lists.specs.declared.lent.WidenedLists.{WidenedLists as WidenedSlices}
 use Rattle.text_lists.specs.declared.lent.RhoLists.{RhoLists as RhoSlices}
 use Rattle.text_lists.specs.declared.row_lists.RowLine.{RowLine}
 
@@ -79,31 +75,6 @@ with_rows rows items l =
       starts = filled_from 1 (λ (row : RowLine). row.end) rows l.starts;
       columns = column (λ (item : Pair). item.column) items l.columns;
       entries = column (λ (item : Pair). item.entry) items l.entries;
-    }
-
--- ---- the widened items
-pub record WidenedLists : Type 0 where
-  pub variables : List ℕ
-  pub ups : List ℕ
-
-abbrev pub lent_widened : WidenedSlices → WidenedLists
-lent_widened l = record { variables = l.variables.now; ups = l.ups.now }
-
--- each list is lent by the same reference as before
-pub record SameWidened (old new : WidenedSlices) : Type 0 where
-  pub variables_is : new.variables.ghost_name ≡ old.variables.ghost_name
-  pub ups_is : new.ups.ghost_name ≡ old.ups.ghost_name
-
--- a line stored as the i-th
-abbrev pub with_widened_line : ℕ → SidedLine → WidenedLists → WidenedLists
-with_widened_line i line l = record { variables = set l.variables i line.number; ups = set l.ups i (bool_byte line.up) }
-
--- all lines stored
-abbrev pub with_widened_lines : List SidedLine → WidenedLists → WidenedLists
-with_widened_lines lines l =
-    record {
-      variables = column (λ (line : SidedLine). line.number) lines l.variables;
-      ups = column (λ (line : SidedLine). bool_byte line.up) lines l.ups;
     }
 
 -- ---- the multipliers

@@ -5,7 +5,7 @@ use Rattle.repeats.specs.Chained.{chain, chain_end}
 use Rattle.text_items.specs.Words.{most_bytes}
 use Rattle.text_lines.specs.declared.row_items.Pair.{Pair}
 use Rattle.text_lines.specs.RowLines.{no_pair, pair, row_head, row_end}
-use Rattle.text_lists.specs.declared.widened_list.Reached.{Reached}
+use Rattle.text_lists.specs.declared.row_lists.Reached.{Reached}
 use Rattle.text_lists.specs.declared.row_lists.RowLine.{RowLine}
 
 -- the position after a pair

@@ -1,10 +1,11 @@
 -- The widened lines: document 01, "The sheet". Assumes nothing.
-use Rattle.std.specs.Prelude.{List, ℕ, Option, length}
+use Rattle.std.specs.Prelude.{List, ℕ, Option}
+use mir.Val.{bool_byte}
 use Rattle.repeats.specs.Chained.{chain, chain_end}
+use Rattle.questions.specs.declared.widened.Widened.{Widened}
 use Rattle.text_items.specs.Words.{most_bytes}
 use Rattle.text_lines.specs.declared.sided_lines.SidedLine.{SidedLine}
 use Rattle.text_lines.specs.SidedLines.{no_widened, widened_line}
-use Rattle.text_lists.specs.declared.widened_list.Reached.{Reached}
 
 -- the position after a widened line
 abbrev pub after_widened : SidedLine → Option ℕ
@@ -14,7 +15,10 @@ after_widened line = line.next
 abbrev pub widened_lines : List ℕ → Option ℕ → List SidedLine
 widened_lines text position = chain (no_widened text) (widened_line text) after_widened most_bytes position
 
--- how many they are, and the position after them
-unfoldable pub widened_reached : List ℕ → Option ℕ → Reached
-widened_reached text position =
-    record { count = length (widened_lines text position); next = chain_end (no_widened text) (widened_line text) after_widened most_bytes position }
+-- the position after them
+abbrev pub widened_lines_end : List ℕ → Option ℕ → Option ℕ
+widened_lines_end text position = chain_end (no_widened text) (widened_line text) after_widened most_bytes position
+
+-- the item that a line names: "a list of variable-and-side records"
+abbrev pub item : SidedLine → Widened
+item line = record { variable = line.number; up = bool_byte line.up }

@@ -11,13 +11,6 @@ pub struct RowLists<'a> {
     pub entries: &'a mut [f64],
 }
 
-/// The widened items: each names a variable and a side.
-#[derive(Drop)]
-pub struct WidenedLists<'a> {
-    pub variables: &'a mut [usize],
-    pub ups: &'a mut [u8],
-}
-
 /// The multipliers, one for each row.
 #[derive(Drop)]
 pub struct RhoLists<'a> {

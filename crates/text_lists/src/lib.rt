@@ -1,5 +1,5 @@
-//! The lists of lines, read into lent slices: the variables, the rows with their pairs, the widened lines, and the multipliers.
-//! A slice shorter than its list holds the front of it.
+//! The lists of lines: the variables, the rows with their pairs, and the multipliers, read into lent slices, and the widened
+//! lines, whose items are marked. A slice shorter than its list holds the front of it.
 
 #![tactic(auto)]
 
@@ -10,9 +10,9 @@ mod variables;
 mod variables_lent;
 mod widened_list;
 
-pub use lent::{RhoLists, RowLists, WidenedLists};
+pub use lent::{RhoLists, RowLists};
 pub use multiplier_list::read_multipliers;
-pub use row_lists::{RowLine, read_rows};
+pub use row_lists::{Reached, RowLine, read_rows};
 pub use variables::read_variables;
 pub use variables_lent::VariableLists;
-pub use widened_list::{Reached, read_widened};
+pub use widened_list::read_widened;

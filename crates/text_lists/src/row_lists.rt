@@ -4,10 +4,18 @@ ghost use Rattle.text_lists.specs.Lent.{SameRows, lent_rows, with_pair, with_pai
 ghost use Rattle.text_lists.specs.Rows.{pairs, pairs_reached, row_pairs, row_line, row_lines, rows_pairs, rows_reached};
 
 use crate::lent::RowLists;
-use crate::widened_list::Reached;
 use repeats::put;
 use text_items::MOST_BYTES;
 use text_lines::{Pair, no_pair, pair_at, row_end, row_head};
+
+/// How far a list was read.
+#[derive(Clone, Copy)]
+pub struct Reached {
+    /// How many things were read so far.
+    pub count: usize,
+    /// The position after them.
+    pub next: Option<usize>,
+}
 
 /// What a row's line says of it.
 #[derive(Clone, Copy)]

@@ -1,50 +1,44 @@
 //! The widened lines, as many as stand there.
-ghost use Rattle.std.specs.Prelude.{◌≡◌};
-ghost use Rattle.text_lists.specs.Lent.{SameWidened, lent_widened, with_widened_line, with_widened_lines};
-ghost use Rattle.text_lists.specs.Widened.{widened_lines, widened_reached};
+ghost use Rattle.std.specs.Prelude.{◌≡◌, ◌≤◌, map};
+ghost use Rattle.questions.specs.Limits.{most_variables};
+ghost use Rattle.questions.specs.Marks.{marks_from};
+ghost use Rattle.text_lists.specs.Widened.{item, widened_lines, widened_lines_end};
 
-use crate::lent::WidenedLists;
-use repeats::put;
+use questions::{Marks, Widened};
 use text_items::MOST_BYTES;
 use text_lines::{SidedLine, no_widened, widened_line};
 
-/// How far a list was read.
-#[derive(Clone, Copy)]
-pub struct Reached {
-    /// How many things were read so far.
-    pub count: usize,
-    /// The position after them.
-    pub next: Option<usize>,
-}
-
-// A line, stored as the i-th.
-fn store_widened(i: usize, line: SidedLine, l: &mut WidenedLists)
-    ensures same_slices { SameWidened l.old l.new }
-    ensures value { lent_widened l.new ≡ with_widened_line i line (lent_widened l.old) }
+// What a line names.
+fn item(line: SidedLine) -> Widened
+    ensures { result ≡ item line }
 {
-    put(l.variables, i, line.number);
-    put(l.ups, i, u8::from(line.up));
+    Widened {
+        variable: line.number,
+        up: u8::from(line.up),
+    }
 }
 
 // Kept: the loop of `read_pairs` again: one function of both would take what stands, reads and stores as closures, with a law for each, and be longer than both loops.
-/// The widened lines from a position on.
-pub fn read_widened(text: &[u8], position: Option<usize>, l: &mut WidenedLists) -> Reached
-    ensures value { result ≡ widened_reached text.now position }
-    ensures same_slices { SameWidened l.old l.new }
-    ensures lists { lent_widened l.new ≡ with_widened_lines (widened_lines text.now position) (lent_widened l.old) }
+/// Marks the items of the widened lines from a position on, of a sheet with `count` variables, and answers the position after
+/// the lines.
+pub fn read_widened(
+    text: &[u8],
+    position: Option<usize>,
+    count: usize,
+    marks: &mut Marks,
+) -> Option<usize>
+    requires { count ≤ most_variables }
+    ensures value { result ≡ widened_lines_end text.now position }
+    ensures marks_after { marks.new ≡ marks_from count marks.old (map item (widened_lines text.now position)) }
 {
     let mut next = position;
-    // Kept: `count` is the place in both lists, which may be shorter, and is part of the answer.
-    for count in 0..MOST_BYTES {
+    for _ in 0..MOST_BYTES {
         if no_widened(text, next) {
-            return Reached { count, next };
+            return next;
         }
         let line = widened_line(text, next);
-        store_widened(count, line, l);
+        marks.note(item(line), count);
         next = line.next;
     }
-    Reached {
-        count: MOST_BYTES,
-        next,
-    }
+    next
 }

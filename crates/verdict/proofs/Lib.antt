@@ -1,2 +1,5 @@
 pub mod Full
 pub mod Whole
+pub mod Lists
+pub mod Found
+pub mod Uncontained

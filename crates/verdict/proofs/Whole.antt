@@ -1,10 +1,10 @@
 -- The verdict from what the calls gave, and what an entry point promises, which follows from its equations. Assumes nothing.
-use mathlib.Core.Path.{◌≡◌, refl, ap, sym, subst, ◌∙◌}
+use mathlib.Core.Path.{◌≡◌, refl, sym, subst}
 use mathlib.Core.Bool.{Bool, true, false, cond}
 use Prim.Native.Nat.{ℕ}
 use borrow.Author.Tests.{eqb-true}
 use lib.Dec.{T, eqb}
-use lib.Ieee.{Float, lt}
+use lib.Ieee.{lt}
 use Rattle.std.specs.Prelude.{IfOk, Result, Ok, Err}
 use Rattle.std.specs.Result.{IsErrAnd}
 use Rattle.cdouble.specs.Compensated.{plus_zero}
@@ -13,15 +13,14 @@ use Rattle.sheet.specs.Numbers.{number_of, numbered}
 use Rattle.sheet.proofs.RefusalNumbers.{answered_err, answered_ok}
 use Rattle.sheet.specs.Sheet.{Sheet, Doubles}
 use Rattle.sheet.specs.Answers.{Accepted, first_no}
-use Rattle.judgement.specs.declared.gap.Proof.{Proof}
-use Rattle.kept.specs.Kept.{Lent, after, filled_in, proof_of}
+use Rattle.sheet.specs.Outputs.{Lent}
+use Rattle.kept.specs.Kept.{after, filled_in}
 use Rattle.kept.proofs.Whole.{after_full, after_refused}
 use Rattle.gaps.specs.Rows.{rows_of, ranges_of}
 use Rattle.gaps.specs.ExactGap.{exact_of}
-use Rattle.gaps.specs.Steps.{outward_of}
 use Rattle.gaps.specs.ThirdDemand.{NotAbove, NoPoint}
 use Rattle.verdict.specs.declared.Verdict.{Verdict}
-use Rattle.verdict.specs.Verdict.{with_outward, full_verdict, verdict}
+use Rattle.verdict.specs.Verdict.{full_verdict, verdict}
 use Rattle.verdict.specs.Promised.{Promised}
 use Rattle.verdict.proofs.Full.{full_not_above, full_rules_out}
 
@@ -49,13 +48,9 @@ module _ (s : Sheet) where
 
 -- ---- where no question refuses, and where one does
 module _ (s : Sheet) (before : Lent) (doubles : Doubles s) where
-  pub accepted_whole : {p : Proof} {g : Float} {v : Verdict} {now : Lent} → 0 ≡ first_no s → p ≡ proof_of s → g ≡ outward_of s → v ≡ with_outward p g
-      → now ≡ filled_in s before → Promised s before now (Ok v)
-  unfolding full_verdict verdict
-  accepted_whole {g = g} none proof_is gap_is answers filled =
-      promised s before
-      (answered_ok none (answers ∙ ap (λ (x : Proof). with_outward x g) proof_is ∙ ap (with_outward (proof_of s)) gap_is))
-      (after_full s before none filled) doubles
+  pub accepted_whole : {v : Verdict} {now : Lent} → 0 ≡ first_no s → v ≡ full_verdict s → now ≡ filled_in s before → Promised s before now (Ok v)
+  unfolding verdict
+  accepted_whole none is filled = promised s before (answered_ok none is) (after_full s before none filled) doubles
 
   pub refused_whole : (refusal : Refusal) (returned : Result Verdict Refusal) → IsErrAnd returned (λ y. y ≡ refusal) → number_of refusal ≡ first_no s
       → Promised s before before (numbered returned)

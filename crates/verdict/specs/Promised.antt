@@ -3,7 +3,8 @@ use Rattle.std.specs.Prelude.{◌≡◌, ℕ, T, IfOk, Result}
 use Rattle.std.specs.Float.Ieee.{lt}
 use Rattle.cdouble.specs.Compensated.{plus_zero}
 use Rattle.sheet.specs.Sheet.{Sheet, Doubles}
-use Rattle.kept.specs.Kept.{Lent, after}
+use Rattle.sheet.specs.Outputs.{Lent}
+use Rattle.kept.specs.Kept.{after}
 use Rattle.gaps.specs.Rows.{rows_of, ranges_of}
 use Rattle.gaps.specs.ExactGap.{exact_of}
 use Rattle.gaps.specs.ThirdDemand.{NotAbove, NoPoint}

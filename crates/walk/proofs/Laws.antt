@@ -1,18 +1,20 @@
--- What document 01 promises of the walk: where it has ended it stays, a coefficient of value 0 is skipped, and the leaving variable's edge is
--- 0 unless its coefficient counted. Assumes nothing.
+-- What document 01 promises of the walk: one that is carried on is the walk over both windows, where it has ended it stays, a coefficient of
+-- value 0 is skipped, and the leaving variable's edge is 0 unless its coefficient counted. Assumes nothing.
 use native.Mathlib.Omega.{arith}
 use mathlib.Core.Path.{◌≡◌, refl, ap, sym, ◌∙◌, subst}
 use mathlib.Core.Logic.{◌⊎◌, inl, inr}
 use mathlib.Core.Bool.{Bool, true, false, ◌&&◌}
-use Prim.Native.Nat.{ℕ, zero, suc, ◌≤◌}
+use mathlib.Core.List.{List}
+use Prim.Native.Nat.{ℕ, zero, suc, ◌+◌, ◌-◌, ◌≤◌}
 use borrow.Author.Tests.{eqb-true}
 use lib.Dec.{eqb}
 use lib.Ieee.{Float, lt, le, eq}
 use lib.Ieee.Scale.{finite}
-use Rattle.std.proofs.lemmas.Bool.{cases_lt, cond_both, cond-true, cond-false, false_from_ne_true}
+use Rattle.std.proofs.lemmas.Bool.{cond_both, cond-true, cond-false, false_from_ne_true}
 use Rattle.doubles.specs.Compare.{absolute}
 use Rattle.cdouble.specs.Compensated.{plus_zero, value}
-use Rattle.cdouble.proofs.Contracts.{differ}
+use Rattle.loops.proofs.Branches.{differ}
+use Rattle.sheet.specs.Outputs.{Lists}
 use Rattle.certificate.specs.Certificate.{Certificate}
 use Rattle.edges.specs.Model.{Model, bound_of}
 use Rattle.edges.specs.Edges.{edge}
@@ -23,9 +25,21 @@ use Rattle.walk.specs.declared.states.End.TheVariants.{Through, Spoilt, Unlimite
 use Rattle.walk.specs.declared.states.Walked.{Walked}
 use Rattle.walk.specs.States.{at_infinity, counted, counted_as_zero, error_of_zero, walked}
 use Rattle.walk.specs.Step.{coefficient_at, step}
-use Rattle.walk.specs.Walk.{onward, walk_over}
+use Rattle.walk.specs.Walk.{onward, started, walk_from, walk_over}
 
--- ---- a walk that has ended
+-- ---- a walk that is carried on, and one that has ended
+onward_through : (w : Walk) (end : End) → walked w end ≡ onward (λ x. walked x Through) (walked w end)
+unfolding onward
+onward_through w Through = refl
+onward_through w Spoilt = refl
+onward_through w Unlimited = refl
+
+onward_twice : (then next : Walk → Walked) (w : Walk) (end : End) → onward then (onward next (walked w end)) ≡ onward (λ x. onward then (next x)) (walked w end)
+unfolding onward
+onward_twice then next w Through = refl
+onward_twice then next w Spoilt = refl
+onward_twice then next w Unlimited = refl
+
 -- how it ended, where it did
 abbrev pub Ended : End → Type 0
 Ended Through = ⊥
@@ -38,27 +52,47 @@ onward_stays next w Through ended = absurd ended
 onward_stays next w Spoilt ended = refl
 onward_stays next w Unlimited ended = refl
 
--- "The walk over the variables ends early at the first spoilt or unlimited coefficient; sums and counts stay as they are then"
-module _ (m : Model) (leaving : ℕ) (estimated : Bool) (c : Certificate) (k : ℕ) (ended : Ended (walk_over m leaving estimated c k).end) where
-  pub ended_stays : (n : ℕ) → k ≤ n → walk_over m leaving estimated c n ≡ walk_over m leaving estimated c k
-  unfolding walk_over
-  ended_stays zero more = let e : zero ≡ k = omega arith in ap (walk_over m leaving estimated c) e
-  ended_stays (suc n) more =
-      elim (cases_lt n k) [
-        | inl below ↦ let e : suc n ≡ k = omega arith in ap (walk_over m leaving estimated c) e
-        | inr before ↦
-            let w = walk_over m leaving estimated c k in
-            let next = step m leaving n (coefficient_at estimated c.lists_of c.errors n) in
-            ap (onward next) (ended_stays n (omega arith)) ∙ onward_stays next w.walk w.end ended
-      ]
+module _ (m : Model) (leaving : ℕ) (estimated : Bool) (l : Lists) (errors : List Float) (first : ℕ) (before : Walk) where
+  abbrev over : ℕ → Walked
+  over n = walk_from m leaving estimated l errors first n before
 
--- the same, by how it ended
-module _ (m : Model) (leaving : ℕ) (estimated : Bool) (c : Certificate) (k : ℕ) where
-  pub spoilt_stays : (walk_over m leaving estimated c k).end ≡ Spoilt → (n : ℕ) → k ≤ n → walk_over m leaving estimated c n ≡ walk_over m leaving estimated c k
-  spoilt_stays e = ended_stays m leaving estimated c k (subst Ended (sym e) tt)
+  -- over n variables, and on over k more from there on the state that it left, unless it had ended
+  pub carried_on : (n k : ℕ) → over (n + k) ≡ onward (walk_from m leaving estimated l errors (first + n) k) (over n)
+  unfolding walk_from
+  carried_on n zero = let e : n + zero ≡ n = omega arith in ap over e ∙ onward_through (over n).walk (over n).end
+  carried_on n (suc k) =
+      let e : n + suc k ≡ suc (n + k) = omega arith in
+      let at : first + (n + k) ≡ first + n + k = omega arith in
+      let next = λ (v : ℕ). step m leaving v (coefficient_at estimated l errors v) in
+      ap over e
+      ∙ ap (λ (v : ℕ). onward (next v) (over (n + k))) at
+      ∙ ap (onward (next (first + n + k))) (carried_on n k)
+      ∙ onward_twice (next (first + n + k)) (walk_from m leaving estimated l errors (first + n) k) (over n).walk (over n).end
 
-  pub unlimited_stays : (walk_over m leaving estimated c k).end ≡ Unlimited → (n : ℕ) → k ≤ n → walk_over m leaving estimated c n ≡ walk_over m leaving estimated c k
-  unlimited_stays e = ended_stays m leaving estimated c k (subst Ended (sym e) tt)
+  -- "The walk over the variables ends early at the first spoilt or unlimited coefficient; sums and counts stay as they are then"
+  pub ended_stays : (k n : ℕ) → k ≤ n → Ended (over k).end → over n ≡ over k
+  ended_stays k n more ended =
+      let e : n ≡ k + (n - k) = omega arith in
+      ap over e ∙ carried_on k (n - k) ∙ onward_stays (walk_from m leaving estimated l errors (first + k) (n - k)) (over k).walk (over k).end ended
+
+-- ---- the walk over the first n variables is the one from 0 on, on the state before any variable
+module _ (m : Model) (leaving : ℕ) (estimated : Bool) (c : Certificate) where
+  pub from_started : (n : ℕ) → walk_from m leaving estimated c.lists_of c.errors 0 n (started c.sums_of) ≡ walk_over m leaving estimated c n
+  unfolding walk_from walk_over
+  from_started zero = refl
+  from_started (suc n) =
+      let e : 0 + n ≡ n = omega arith in
+      rw e (ap (onward (step m leaving n (coefficient_at estimated c.lists_of c.errors n))) (from_started n))
+
+  stays : (k n : ℕ) → k ≤ n → Ended (walk_over m leaving estimated c k).end → walk_over m leaving estimated c n ≡ walk_over m leaving estimated c k
+  stays k n more =
+      subst (λ (f : ℕ → Walked). Ended (f k).end → f n ≡ f k) (λ i j. from_started j i) (ended_stays m leaving estimated c.lists_of c.errors 0 (started c.sums_of) k n more)
+
+  pub spoilt_stays : (k n : ℕ) → k ≤ n → (walk_over m leaving estimated c k).end ≡ Spoilt → walk_over m leaving estimated c n ≡ walk_over m leaving estimated c k
+  spoilt_stays k n more e = stays k n more (subst Ended (sym e) tt)
+
+  pub unlimited_stays : (k n : ℕ) → k ≤ n → (walk_over m leaving estimated c k).end ≡ Unlimited → walk_over m leaving estimated c n ≡ walk_over m leaving estimated c k
+  unlimited_stays k n more e = stays k n more (subst Ended (sym e) tt)
 
 -- ---- a step
 -- what holds of the state as it is, of one that counted as zero, and of one that counted, its coefficient not 0 and its bound finite

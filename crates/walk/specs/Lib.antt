@@ -2,5 +2,4 @@ pub mod Walk
 pub mod Reads
 pub mod StateReads
 pub mod States
-pub mod StepReads
 pub mod Step

@@ -5,7 +5,7 @@ use Rattle.std.specs.Float.Ieee.{lt, eq}
 use Rattle.std.specs.Float.Ieee.Scale.{finite}
 use Rattle.cdouble.specs.declared.CDouble.{CDouble}
 use Rattle.cdouble.specs.Compensated.{plus_zero, value}
-use Rattle.certificate.specs.Added.{Lists, pair_at}
+use Rattle.certificate.specs.Added.{pair_at}
 use Rattle.edges.specs.Model.{Model, bound_of}
 use Rattle.edges.specs.Edges.{edge}
 use Rattle.walk.specs.declared.states.Coefficient.{Coefficient}
@@ -13,6 +13,7 @@ use Rattle.walk.specs.declared.states.Walk.{Walk}
 use Rattle.walk.specs.declared.states.End.TheVariants.{Through, Spoilt}
 use Rattle.walk.specs.declared.states.Walked.{Walked}
 use Rattle.walk.specs.States.{counted, walked, at_infinity}
+use Rattle.sheet.specs.Outputs.{Lists}
 
 -- ---- what the certificate has for a variable; its error is 0 where there are no error bounds
 abbrev pub coefficient : CDouble → Float → ℕ → Float → Coefficient

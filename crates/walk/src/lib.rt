@@ -2,10 +2,8 @@
 
 #![tactic(auto)]
 
-mod one_step;
 mod states;
 mod steps;
 
-pub use one_step::step;
-pub use states::{Coefficient, End, Walk, Walked, at_infinity, counted};
-pub use steps::walk_over;
+pub use states::{Coefficient, End, Walk, Walked};
+pub use steps::{started, walk_over};

@@ -1,11 +1,11 @@
 //! What a coefficient makes of the state of the walk.
 ghost use Rattle.std.specs.Prelude.{◌≡◌};
-ghost use Rattle.walk.specs.States.{at_infinity, counted, counted_as_zero, error_of_zero};
+ghost use Rattle.walk.specs.States.{counted, counted_as_zero, error_of_zero};
 ghost use Rattle.walk.specs.StateReads.{Small};
 
 use cdouble::{CDouble, add_up, compensated_error, distance_up};
-use directed::mul_up;
-use double_bits::{abs, is_finite};
+use double_bits::abs;
+use outward_by_errors::mul_up;
 
 /// What the certificate has for a variable: its coefficient, the magnitude and count of the terms it was summed from,
 /// and how far the multipliers' errors may carry it.
@@ -54,7 +54,7 @@ pub struct Walked {
 
 /// How far from zero a coefficient can come out where it is zero for the exact multipliers.
 #[tactic(auto, unfolding(crate::specs::States::error_of_zero))]
-fn error_of_zero(c: Coefficient) -> f64
+pub fn error_of_zero(c: Coefficient) -> f64
     ensures { result ≡ error_of_zero c }
 {
     c.error + compensated_error(c.terms, c.terms, c.magnitude)
@@ -94,37 +94,12 @@ pub fn counted(leaving: bool, c: Coefficient, bound: f64, end: f64, w: Walk) -> 
 
 /// A coefficient that counts as zero.
 #[tactic(auto, unfolding(crate::specs::States::counted_as_zero))]
-fn counted_as_zero(w: Walk) -> Walk
+pub fn counted_as_zero(w: Walk) -> Walk
     requires { Small w }
     ensures { result ≡ counted_as_zero w }
 {
     Walk {
         zero_within_error: w.zero_within_error + 1,
         ..w
-    }
-}
-
-/// A coefficient whose variable has no finite bound on its side.
-#[tactic(auto, unfolding(crate::specs::States::at_infinity))]
-pub fn at_infinity(c: Coefficient, w: Walk) -> Walked
-    requires { Small w }
-    ensures { result ≡ at_infinity c w }
-{
-    let error = error_of_zero(c);
-    if !is_finite(error) {
-        return Walked {
-            walk: w,
-            end: End::Spoilt,
-        };
-    }
-    if abs(c.p.value()) <= error {
-        return Walked {
-            walk: counted_as_zero(w),
-            end: End::Through,
-        };
-    }
-    Walked {
-        walk: w,
-        end: End::Unlimited,
     }
 }

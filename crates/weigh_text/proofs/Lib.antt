@@ -1,4 +1,2 @@
-pub mod Cut
 pub mod Reading
 pub mod Answering
-pub mod Whole

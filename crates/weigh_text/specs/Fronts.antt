@@ -1,16 +1,7 @@
--- A text is read into lists that have room for the largest sheet. Here are the sheet that stands at their fronts, and the verdict on it. Assumes
--- nothing.
-use Rattle.std.specs.Prelude.{cond, ℕ, ◌+◌, ◌≤◌, length, take, Result, Err}
-use Rattle.questions.specs.Limits.{most_rows, most_structurals, most_entries}
-use Rattle.questions.specs.Questions.{sizes_fine}
-use Rattle.sheet.specs.Sheet.{Sheet, sheet, sizes_of, variables}
-use Rattle.widened_records.specs.Fewest.{fewest, most_widened}
-use Rattle.verdict.specs.declared.Verdict.{Verdict}
-use Rattle.verdict.specs.Verdict.{verdict}
-
--- each variable that the limits allow
-abbrev pub most_variables : ℕ
-most_variables = most_structurals + most_rows
+-- A text is read into lists that have room for the largest sheet. Here is the sheet that stands at their fronts. Assumes nothing.
+use Rattle.std.specs.Prelude.{◌+◌, ◌≤◌, length, min, take}
+use Rattle.questions.specs.Limits.{most_rows, most_structurals, most_entries, most_variables}
+use Rattle.sheet.specs.Sheet.{Sheet, sheet, sizes_of}
 
 -- lists with room for the largest sheet
 pub record HasRoom (long : Sheet) : Type 0 where
@@ -27,36 +18,19 @@ pub record HasRoom (long : Sheet) : Type 0 where
   pub in_basic : most_variables ≤ length long.basic
   pub in_places : most_variables ≤ length long.places
   pub in_values : most_variables ≤ length long.values
-  pub in_widened_vars : most_widened ≤ length long.widened_variables
-  pub in_widened_ups : most_widened ≤ length long.widened_ups
   pub in_rho_hi : most_rows ≤ length long.rho_hi
   pub in_rho_lo : most_rows ≤ length long.rho_lo
   pub in_second : most_rows ≤ length long.second
 
--- the sheet at their fronts, of its size and with so many widened items
-abbrev pub fronts : ℕ → Sheet → Sheet
-fronts items long =
+-- the sheet at their fronts, of its sizes, with all of its widened list: each list as long as these need, or as the limits allow if they are beyond
+abbrev pub fronts : Sheet → Sheet
+fronts long =
+    let rows = min long.rows most_rows in
+    let structurals = min long.structurals most_structurals in
+    let entries = min long.entry_count most_entries in
+    let count = structurals + rows in
     sheet (sizes_of long) long.feasibility long.checked long.leaving_row long.leaving_up long.outputs
-    (take (long.rows + 1) long.starts)
-    (take long.entry_count long.columns)
-    (take long.entry_count long.entries)
-    (take long.rows long.right_sides)
-    (take long.rows long.scales)
-    (take long.structurals long.integer)
-    (take (variables long) long.mins)
-    (take (variables long) long.maxs)
-    (take (variables long) long.low_tolerances)
-    (take (variables long) long.high_tolerances)
-    (take (variables long) long.basic)
-    (take (variables long) long.places)
-    (take (variables long) long.values)
-    (take items long.widened_variables)
-    (take items long.widened_ups)
-    (take long.rows long.rho_hi)
-    (take long.rows long.rho_lo)
-    (take long.rows long.second)
-
--- the verdict on it; where the sizes are beyond the limits the lists are not looked at
-unfoldable pub front_verdict : ℕ → Sheet → Result Verdict ℕ
-front_verdict widened long =
-    cond (sizes_fine long.rows long.structurals long.entry_count) (verdict (fronts (fewest widened) long)) (Err 2)
+    (take (rows + 1) long.starts) (take entries long.columns) (take entries long.entries) (take rows long.right_sides) (take rows long.scales)
+    (take structurals long.integer) (take count long.mins) (take count long.maxs) (take count long.low_tolerances) (take count long.high_tolerances)
+    (take count long.basic) (take count long.places) (take count long.values) long.widened (take rows long.rho_hi) (take rows long.rho_lo)
+    (take rows long.second)

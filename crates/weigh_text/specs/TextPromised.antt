@@ -1,11 +1,12 @@
 -- What `weigh_text` promises of its answer to a text. Assumes nothing.
 use Rattle.std.specs.Prelude.{◌≡◌, ◌≤◌, List, ℕ, T, length}
 use Rattle.printer.specs.Answer.{written_if_fits}
-use Rattle.kept.specs.Kept.{Lent, after}
+use Rattle.kept.specs.Kept.{after}
 use Rattle.verdict.specs.Promised.{Promised}
 use Rattle.sheet_text.specs.Form.{follows_form}
 use Rattle.sheet_text.specs.SheetIn.{sheet_in}
 use Rattle.weigh_text.specs.TextVerdict.{most_answer, text_answer, text_verdict}
+use Rattle.sheet.specs.Outputs.{Lent}
 
 -- of a text, what is lent for the answer, before and now, and how many bytes the answer has
 pub record TextPromised (text before now : List ℕ) (count : ℕ) : Type 0 where

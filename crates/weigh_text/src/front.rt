@@ -1,33 +1,29 @@
 //! The verdict on lists that stand at the front of longer ones.
-ghost use Rattle.std.specs.Prelude.{◌≡◌};
+ghost use Rattle.std.specs.Prelude.{◌≡◌, List, []};
+ghost use Rattle.questions.specs.declared.widened.Widened.{Widened};
+ghost use Rattle.questions.specs.Marks.{count_of, marks_of};
 ghost use Rattle.sheet.specs.Numbers.{numbered};
 ghost use Rattle.sheet.specs.Lent.{lent_sheet};
 ghost use Rattle.sheet_text.specs.SheetIn.{lent_outputs};
-ghost use Rattle.weigh_text.specs.Fronts.{HasRoom, front_verdict};
+ghost use Rattle.verdict.specs.Verdict.{verdict};
+ghost use Rattle.weigh_text.specs.Fronts.{HasRoom, fronts};
 
-use certificate::Lists;
-use questions::{MOST_ROWS, MOST_STRUCTURALS};
-use sheet::{Refusal, Sheet, sizes_fine};
-use verdict::{Verdict, verdict_of};
-use widened_records::looked_at;
+use questions::{MOST_ENTRIES, MOST_ROWS, MOST_STRUCTURALS, MOST_VARIABLES, Marks};
+use sheet::{Lists, Refusal, Sheet};
+use verdict::{Verdict, verdict_on};
 
-/// Each variable that the limits of the second question allow.
-pub const MOST_VARIABLES: usize = MOST_STRUCTURALS + MOST_ROWS;
-
-/// The verdict on the sheet whose lists are the fronts of these, with so many widened items.
-pub fn verdict_on(s: &Sheet, widened: usize) -> Result<Verdict, Refusal>
-    requires { HasRoom (lent_sheet s.now lent_outputs) }
-    ensures { numbered result ≡ front_verdict widened (lent_sheet s.now lent_outputs) }
+/// The verdict on the sheet whose lists are the fronts of these, as long as its sizes need, or the largest sheet's. It is that of the sheet
+/// with any widened list that has these marks.
+pub fn front_verdict(s: &Sheet, marks: &Marks) -> Result<Verdict, Refusal>
+    requires { HasRoom (lent_sheet s.now [] lent_outputs) }
+    ensures { (widened : List Widened) → marks.now ≡ marks_of (count_of s.now.rows s.now.structurals) widened →
+        numbered result ≡ verdict (fronts (lent_sheet s.now widened lent_outputs)) }
 {
-    if !sizes_fine(s) {
-        return Err(Refusal::Sizes);
-    }
-    let rows = s.rows;
-    let structurals = s.structurals;
-    let entry_count = s.entry_count;
+    let rows = s.rows.min(MOST_ROWS);
+    let structurals = s.structurals.min(MOST_STRUCTURALS);
+    let entry_count = s.entry_count.min(MOST_ENTRIES);
     let count = structurals + rows;
     let last = rows + 1;
-    let items = looked_at(widened);
     let front = Sheet {
         starts: &s.starts[..last],
         columns: &s.columns[..entry_count],
@@ -42,8 +38,6 @@ pub fn verdict_on(s: &Sheet, widened: usize) -> Result<Verdict, Refusal>
         basic: &s.basic[..count],
         places: &s.places[..count],
         values: &s.values[..count],
-        widened_variables: &s.widened_variables[..items],
-        widened_ups: &s.widened_ups[..items],
         rho_hi: &s.rho_hi[..rows],
         rho_lo: &s.rho_lo[..rows],
         second: &s.second[..rows],
@@ -61,5 +55,5 @@ pub fn verdict_on(s: &Sheet, widened: usize) -> Result<Verdict, Refusal>
         magnitudes: &mut magnitudes,
         terms: &mut terms,
     };
-    verdict_of(&front, &mut l, &mut errors)
+    verdict_on(&front, marks, &mut l, &mut errors)
 }

@@ -1,22 +1,26 @@
 //! The verdict on a text: the first question, then the verdict on the sheet that the text says.
-ghost use Rattle.std.specs.Prelude.{◌≡◌};
+ghost use Rattle.std.specs.Prelude.{◌≡◌, List, []};
+ghost use Rattle.questions.specs.declared.widened.Widened.{Widened};
+ghost use Rattle.questions.specs.Marks.{count_of, marks_of};
 ghost use Rattle.sheet.specs.Numbers.{numbered};
 ghost use Rattle.sheet_text.specs.Lent.{lent_lists};
-ghost use Rattle.weigh_text.specs.Fronts.{HasRoom, front_verdict};
+ghost use Rattle.verdict.specs.Verdict.{verdict};
+ghost use Rattle.weigh_text.specs.Fronts.{HasRoom, fronts};
 ghost use Rattle.weigh_text.specs.TextVerdict.{sheet_with, text_verdict};
 
-use crate::{MOST_VARIABLES, verdict_on};
-use questions::{MOST_ENTRIES, MOST_ROWS, MOST_STRUCTURALS};
+use crate::front_verdict;
+use questions::{MOST_ENTRIES, MOST_ROWS, MOST_STRUCTURALS, MOST_VARIABLES, Marks};
 use sheet::{Refusal, Sheet};
 use sheet_text::{Read, SheetLists, follows_form, read_sheet};
-use text_lists::{RhoLists, RowLists, VariableLists, WidenedLists};
+use text_lists::{RhoLists, RowLists, VariableLists};
 use verdict::Verdict;
-use widened_records::MOST_WIDENED;
 
-// The verdict on the sheet at the fronts of lists that a text was read into.
-fn verdict_in(read: Read, l: &SheetLists) -> Result<Verdict, Refusal>
-    requires { HasRoom (sheet_with read (lent_lists l.now)) }
-    ensures { numbered result ≡ front_verdict read.widened (sheet_with read (lent_lists l.now)) }
+/// The verdict on the sheet at the fronts of lists that a text was read into. It is that of the sheet with any widened list that
+/// has these marks.
+fn verdict_in(read: Read, l: &SheetLists, marks: &Marks) -> Result<Verdict, Refusal>
+    requires { HasRoom (sheet_with read (lent_lists l.now) []) }
+    ensures { (widened : List Widened) → marks.now ≡ marks_of (count_of read.rows read.structurals) widened →
+        numbered result ≡ verdict (fronts (sheet_with read (lent_lists l.now) widened)) }
 {
     let s = Sheet {
         rows: read.rows,
@@ -39,17 +43,15 @@ fn verdict_in(read: Read, l: &SheetLists) -> Result<Verdict, Refusal>
         basic: l.variables.basic,
         places: l.variables.places,
         values: l.variables.values,
-        widened_variables: l.widened.variables,
-        widened_ups: l.widened.ups,
         rho_hi: l.rhos.rho_hi,
         rho_lo: l.rhos.rho_lo,
         second: l.rhos.second,
     };
-    verdict_on(&s, read.widened)
+    front_verdict(&s, marks)
 }
 
-// Kept: no heap; eighteen local arrays, since a struct that owns them lists each again, in its type and where it is built, and is no plainer.
-/// The text is read into lists of this function's own, so nothing lent changes. They have room for the largest sheet that
+// Kept: no heap; sixteen local arrays, since a struct that owns them lists each again, in its type and where it is built, and is no plainer.
+/// The text is read into lists and marks of this function's own, so nothing lent changes. They have room for the largest sheet that
 /// the second question allows; of a longer one the rest is read and not kept.
 pub fn text_verdict(text: &[u8]) -> Result<Verdict, Refusal>
     ensures { numbered result ≡ text_verdict text.now }
@@ -67,8 +69,6 @@ pub fn text_verdict(text: &[u8]) -> Result<Verdict, Refusal>
     let mut basic = [0u8; MOST_VARIABLES];
     let mut places = [0; MOST_VARIABLES];
     let mut values = [0.0; MOST_VARIABLES];
-    let mut widened_vars = [0; MOST_WIDENED];
-    let mut widened_ups = [0u8; MOST_WIDENED];
     let mut rho_hi = [0.0; MOST_ROWS];
     let mut rho_lo = [0.0; MOST_ROWS];
     let mut second = [0.0; MOST_ROWS];
@@ -90,19 +90,16 @@ pub fn text_verdict(text: &[u8]) -> Result<Verdict, Refusal>
             columns: &mut columns,
             entries: &mut entries,
         },
-        widened: WidenedLists {
-            variables: &mut widened_vars,
-            ups: &mut widened_ups,
-        },
         rhos: RhoLists {
             rho_hi: &mut rho_hi,
             rho_lo: &mut rho_lo,
             second: &mut second,
         },
     };
-    let read = read_sheet(text, &mut l);
+    let mut marks = Marks::none();
+    let read = read_sheet(text, &mut l, &mut marks);
     if !follows_form(text.len(), read.next) {
         return Err(Refusal::Form);
     }
-    verdict_in(read, &l)
+    verdict_in(read, &l, &marks)
 }

@@ -1,7 +1,7 @@
 //! Damage to sheets that questions refuse.
 use super::numbers::{Rng, power};
 use super::sheet;
-use crate::sheet::Sheet;
+use crate::sheet::{Sheet, Widened};
 
 /// A sound sheet with one kind of damage or a few.
 pub fn damaged(rng: &mut Rng, bare: bool) -> Sheet {
@@ -50,7 +50,7 @@ pub fn damage(rng: &mut Rng, sheet: &mut Sheet, question: usize, bare: bool) {
             1 => sheet.structurals = rng.pick(&[sheet.structurals + 1, 256, 0]),
             _ => sheet.entry_count = rng.pick(&[sheet.entry_count + 1, 4096, 0]),
         },
-        3 => match rng.below(26) {
+        3 => match rng.below(24) {
             0 => relength(rng, &mut sheet.starts),
             1 => relength(rng, &mut sheet.columns),
             2 => relength(rng, &mut sheet.entries),
@@ -64,17 +64,15 @@ pub fn damage(rng: &mut Rng, sheet: &mut Sheet, question: usize, bare: bool) {
             10 => relength(rng, &mut sheet.basic),
             11 => relength(rng, &mut sheet.places),
             12 => relength(rng, &mut sheet.values),
-            13 => relength(rng, &mut sheet.widened_vars),
-            14 => relength(rng, &mut sheet.widened_ups),
-            15 => relength(rng, &mut sheet.rho_hi),
-            16 => relength(rng, &mut sheet.rho_lo),
-            17 => relength(rng, &mut sheet.second),
-            at @ 18..=22 => {
+            13 => relength(rng, &mut sheet.rho_hi),
+            14 => relength(rng, &mut sheet.rho_lo),
+            15 => relength(rng, &mut sheet.second),
+            at @ 16..=20 => {
                 let count = sheet.made_rows + sheet.made_structurals;
-                sheet.outputs[at - 18] = rng.pick(&[count - 1, 0, count / 2]);
+                sheet.outputs[at - 16] = rng.pick(&[count - 1, 0, count / 2]);
             }
-            23 => sheet.rows = rng.pick(&[sheet.made_rows + 1, sheet.made_rows.max(2) - 1, 128]),
-            24 => sheet.structurals = rng.pick(&[sheet.made_structurals + 1, sheet.made_structurals.max(1) - 1, 256]),
+            21 => sheet.rows = rng.pick(&[sheet.made_rows + 1, sheet.made_rows.max(2) - 1, 128]),
+            22 => sheet.structurals = rng.pick(&[sheet.made_structurals + 1, sheet.made_structurals.max(1) - 1, 256]),
             _ => sheet.entry_count = rng.pick(&[sheet.entry_count.wrapping_add(1), sheet.entry_count.max(1) - 1, 0]),
         },
         4 => match rng.below(4) {
@@ -180,20 +178,19 @@ pub fn damage(rng: &mut Rng, sheet: &mut Sheet, question: usize, bare: bool) {
         }
         11 => {
             let count = sheet.made_rows + sheet.made_structurals;
-            if sheet.widened_vars.is_empty() || (!bare && rng.percent(40)) {
-                for up in if rng.percent(50) { [1, 2] } else { [0, 0] } {
-                    sheet.widened_vars.push(count - 1);
-                    sheet.widened_ups.push(up);
-                }
+            if sheet.widened.is_empty() || (!bare && rng.percent(40)) {
+                let ups = if rng.percent(50) { [1, 2] } else { [0, 0] };
+                sheet.widened.extend(ups.map(|up| Widened::of(count - 1, up)));
             }
             match rng.below(3) {
                 0 => {
                     let x = rng.pick(&[count, count + 1, usize::MAX]);
-                    put(rng, &mut sheet.widened_vars, x);
+                    let at = rng.below(sheet.widened.len());
+                    sheet.widened[at].variable = x;
                 }
                 1 => {
                     let x = rng.below(count);
-                    sheet.widened_vars.fill(x);
+                    sheet.widened.iter_mut().for_each(|item| item.variable = x);
                 }
                 _ => {}
             }

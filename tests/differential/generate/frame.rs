@@ -2,7 +2,7 @@
 use super::aim::{aim, check, nudge, put_y};
 use super::numbers::Kind::Ordinary;
 use super::numbers::{Kind, Rng, UNIT, number, ordered, power};
-use crate::sheet::Sheet;
+use crate::sheet::{Sheet, Widened};
 
 /// What a sheet's numbers are like.
 #[derive(Clone, Copy)]
@@ -237,7 +237,7 @@ pub fn fill(rng: &mut Rng, sheet: &mut Sheet, plan: Plan, bare: bool) {
 
 /// Widens so many percent of the sides.
 pub fn widen(rng: &mut Rng, sheet: &mut Sheet, percent: usize, bare: bool) {
-    (sheet.widened_vars, sheet.widened_ups) = (Vec::new(), Vec::new());
+    sheet.widened.clear();
     if bare && percent <= 10 && rng.percent(80) {
         return;
     }
@@ -249,7 +249,6 @@ pub fn widen(rng: &mut Rng, sheet: &mut Sheet, percent: usize, bare: bool) {
         items.swap(at, other);
     }
     for (var, up) in items {
-        sheet.widened_vars.push(var);
-        sheet.widened_ups.push(if up == 0 { 0 } else { rng.flag() });
+        sheet.widened.push(Widened::of(var, if up == 0 { 0 } else { rng.flag() }));
     }
 }

@@ -262,7 +262,8 @@ pub fn class_of(sheet: u64) -> usize {
     }
 }
 
-/// Sheets for the timing: entries in all, and whether checked. They hold, and every walk goes through.
+/// Sheets for the timing (tests/benchmark): entries in all, and whether checked. They hold, and every walk goes through.
+#[allow(dead_code)]
 pub fn timed(rng: &mut Rng, entries: usize, checked: bool) -> Sheet {
     let (rows, structurals, dense) = match entries {
         4 => (2, 2, 1),

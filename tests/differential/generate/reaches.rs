@@ -102,8 +102,7 @@ fn widen_slack(sheet: &mut Sheet, r: usize, width: f64) {
     let slack = sheet.structurals + r;
     (sheet.low_tolerances[slack], sheet.high_tolerances[slack]) = (width, width);
     (sheet.feasibility, sheet.scales[r]) = (1.0, width);
-    let items = sheet.widened_vars.iter().copied().zip(sheet.widened_ups.iter().copied());
-    (sheet.widened_vars, sheet.widened_ups) = items.filter(|&(var, _)| var != slack).unzip();
+    sheet.widened.retain(|item| item.variable != slack);
 }
 
 /// Moves the first right side to where the gap is the larger of the two rooms, or about there.

@@ -3,7 +3,7 @@ use super::aim::{aim, combined, nudge_row, put_y, put_y_low};
 use super::numbers::Kind::{Ordinary, Whole};
 use super::numbers::{Rng, UNIT, number, ordered, power, ulps};
 use crate::rust::answer;
-use crate::sheet::Sheet;
+use crate::sheet::{Sheet, Widened};
 
 /// Rows that are multiples of the first but for a few last places, and multipliers that cancel them.
 pub fn dependent(rng: &mut Rng, sheet: &mut Sheet, exact: bool) {
@@ -134,8 +134,7 @@ pub fn without_room(sheet: &mut Sheet) {
     sheet.high_tolerances.fill(0.0);
     sheet.feasibility = 0.0;
     let slacks = sheet.structurals..sheet.structurals + sheet.rows;
-    sheet.widened_vars = slacks.flat_map(|slack| [slack, slack]).collect();
-    sheet.widened_ups = [0, 1].repeat(sheet.rows);
+    sheet.widened = slacks.flat_map(|slack| [0, 1].map(|up| Widened::of(slack, up))).collect();
 }
 
 /// Low parts of all digits for every multiplier.

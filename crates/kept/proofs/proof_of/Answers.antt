@@ -1,29 +1,37 @@
 -- `proof_of` meets its contract. Assumes nothing.
-use mathlib.Core.Path.{◌≡◌, refl, sym, subst}
-use Rattle.sheet.specs.Numbers.{number_of}
-use Rattle.sheet.proofs.RefusalNumbers.{answered_err, answered_ok}
-use Rattle.sheet.specs.declared.answers.Outputs.{Outputs}
-use Rattle.sheet.specs.Lent.{lent_sheet}
-use Rattle.sheet.specs.Answers.{first_no}
-use Rattle.kept.proofs.Whole.{after_full, after_refused}
+use native.Mathlib.Omega.{arith}
+use mathlib.Core.Path.{refl}
+use mathlib.Core.List.{[]}
+use Rattle.questions.specs.Marks.{holds}
+use Rattle.sheet.specs.Outputs.{lent_lists, sheet_lent}
+use Rattle.kept.specs.Kept.{certificate_of, filled_in, proof_of}
+use Rattle.kept.proofs.Fits.{few_variables, certificate_fits}
+use Rattle.kept.proofs.Whole.{weighed, judge_asks, filled_in_lem, kept_is}
 use Rattle.kept.proofs.proof_of.Goals as goal
 
-pub weighed-requires : goal.weighed-requires
-weighed-requires c = sym (subst (λ (o : Outputs). 0 ≡ first_no (lent_sheet c.args.s.now o)) c.outputs_of.ensures c.in_ok-first_no.ensures)
+pub overflow_add-count : goal.overflow_add-count
+overflow_add-count c = omega (arith, few_variables (sheet_lent c.args.s.now [] c.args.l.now c.args.errors.now) c.requires.accepted)
 
-pub returns-in_err-first_no : goal.returns-in_err-first_no
-returns-in_err-first_no c =
-    let refusal = c.in_err-first_no.field-0.0 in
-    let is = subst (λ (o : Outputs). number_of refusal ≡ first_no (lent_sheet c.args.s.now o)) c.outputs_of.ensures c.in_err-first_no.ensures in
-    record {
-      promised = (answered_err refusal _ c.from_residual.result c.from_residual.ensures.1 is, after_refused _ _ refusal is);
-      same_slices = record { high_is = refl; low_is = refl; magnitudes_is = refl; terms_is = refl };
-    }
+pub certificate-c-requires-clause-weighed : goal.certificate-c-requires-clause-weighed
+certificate-c-requires-clause-weighed c = weighed (sheet_lent c.args.s.now [] c.args.l.now c.args.errors.now) c.requires.worked_out
+
+pub certificate-c-requires-clause-fits : goal.certificate-c-requires-clause-fits
+certificate-c-requires-clause-fits c =
+    certificate_fits (sheet_lent c.args.s.now [] c.args.l.now c.args.errors.now) c.requires.accepted (lent_lists c.args.l.now) c.args.errors.now refl _ _
+
+pub judge-requires : goal.judge-requires
+judge-requires c =
+    judge_asks (sheet_lent c.args.s.now [] c.args.l.now c.args.errors.now) c.requires.worked_out c.requires.accepted (lent_lists c.args.l.now) c.args.errors.now refl
+    c.certificate-c.ensures.value (holds c.args.marks.now)
 
 pub returns : goal.returns
+unfolding proof_of certificate_of filled_in
 returns c =
-    let none = subst (λ (o : Outputs). 0 ≡ first_no (lent_sheet c.args.s.now o)) c.outputs_of.ensures c.in_ok-first_no.ensures in
+    let bare = sheet_lent c.args.s.now [] c.args.l.now c.args.errors.now in
+    let found = c.requires.worked_out in
+    let is = c.certificate-c.ensures.value in
     record {
-      promised = (answered_ok none c.weighed.ensures.promised.0, after_full _ _ none c.weighed.ensures.promised.1);
-      same_slices = c.weighed.ensures.same_slices;
+      kept = λ widened said. kept_is bare found c.requires.accepted (lent_lists c.args.l.now) c.args.errors.now refl is said c.judge.ensures;
+      written = λ widened. filled_in_lem bare found c.requires.accepted (lent_lists c.args.l.now) c.args.errors.now refl is;
+      same_slices = c.certificate-c.ensures.same_slices;
     }

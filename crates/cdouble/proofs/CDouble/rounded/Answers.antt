@@ -6,7 +6,8 @@ use Rattle.doubles.proofs.Tests.{fit}
 use Rattle.cdouble.specs.Compensated.{lower, normalized, rounded, upper}
 use Rattle.cdouble.specs.Exactness.{SumRange, IsToward}
 use Rattle.cdouble.proofs.Consequences.{normalized_exact, rounded_toward}
-use Rattle.cdouble.proofs.Contracts.{carried, differ, not_true, rounded_stays, when_false, when_true}
+use Rattle.cdouble.proofs.Contracts.{carried, rounded_stays}
+use Rattle.loops.proofs.Branches.{differ, not_true, when_false, when_true}
 use Rattle.cdouble.proofs.CDouble.rounded.Goals as goal
 use Rattle.cdouble.proofs.CDouble.rounded.Goals.{else-up-via-then-up+else-error, else-up-via-else-up, else-not-up-via-then-not-up+else-error-2, else-not-up-via-else-not-up}
 use Rattle.cdouble.proofs.CDouble.rounded.Lts as lts

@@ -1,7 +1,7 @@
 -- `add_errors` meets its contract. Assumes nothing.
 use lib.ListN.{length}
 use Rattle.certificate.specs.Added.{after_errors}
-use Rattle.exact.proofs.Turns.{Turn}
+use Rattle.loops.proofs.Turns.{Turn}
 use Rattle.certificate.proofs.adding.add_errors.Given as goal
 
 abbrev pub invariant-loop-v : goal.invariant-loop-v

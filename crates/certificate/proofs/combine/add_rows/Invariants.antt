@@ -2,8 +2,8 @@
 use Rattle.certificate.specs.System.{lent_system}
 use Rattle.certificate.specs.Certificate.{after_rows, certificate}
 use Rattle.certificate.specs.Added.{no_sums}
-use Rattle.certificate.specs.Lent.{SameSlices, lent_lists}
-use Rattle.exact.proofs.Turns.{Turn}
+use Rattle.sheet.specs.Outputs.{SameSlices, lent_lists}
+use Rattle.loops.proofs.Turns.{Turn}
 use Rattle.certificate.proofs.combine.add_rows.Given as goal
 
 abbrev pub invariant-loop-r : goal.invariant-loop-r

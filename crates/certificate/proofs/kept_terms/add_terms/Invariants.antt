@@ -1,8 +1,8 @@
 -- `add_terms` meets its contract. Assumes nothing.
 use lib.ListN.{length}
 use Rattle.certificate.specs.Added.{after_terms}
-use Rattle.certificate.specs.Lent.{SameSlices, lent_lists}
-use Rattle.exact.proofs.Turns.{Turn}
+use Rattle.sheet.specs.Outputs.{SameSlices, lent_lists}
+use Rattle.loops.proofs.Turns.{Turn}
 use Rattle.certificate.proofs.kept_terms.add_terms.Given as goal
 
 abbrev pub invariant-loop-v : goal.invariant-loop-v

@@ -1,6 +1,6 @@
 -- `bound_of` meets its contract. Assumes nothing.
 use mathlib.Core.Path.{refl}
-use Rattle.cdouble.proofs.Contracts.{when_true, when_false}
+use Rattle.loops.proofs.Branches.{when_true, when_false}
 use Rattle.edges.proofs.bounds.bound_of.Goals as goal
 
 pub returns-then-up : goal.returns-then-up

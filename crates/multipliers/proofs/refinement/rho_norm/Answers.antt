@@ -4,7 +4,7 @@ use lib.ListN.{length, length-append}
 use Rattle.std.proofs.lemmas.Slice.Zip.{zip_turn}
 use Rattle.cdouble.specs.Compensated.{value}
 use Rattle.multipliers.specs.Refinement.{finite_max_norm, rho_at}
-use Rattle.exact.proofs.Turns.{first}
+use Rattle.loops.proofs.Turns.{first}
 use Rattle.multipliers.proofs.Turns.{next_number}
 use Rattle.multipliers.proofs.refinement.rho_norm.Goals as goal
 

@@ -2,7 +2,7 @@
 use lib.ListN.{length}
 use Rattle.cdouble.specs.Compensated.{value}
 use Rattle.multipliers.specs.Refinement.{finite_max_norm, rho_at}
-use Rattle.exact.proofs.Turns.{Turn}
+use Rattle.loops.proofs.Turns.{Turn}
 use Rattle.multipliers.proofs.refinement.rho_norm.Given as goal
 
 abbrev pub invariant-loop-hi : goal.invariant-loop-hi

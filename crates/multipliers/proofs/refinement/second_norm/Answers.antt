@@ -4,7 +4,7 @@ use lib.ListN.{length, get_or}
 use mathlib.Core.Path.{refl}
 use native.Mathlib.Omega.{arith}
 use Rattle.multipliers.specs.Refinement.{finite_max_norm}
-use Rattle.exact.proofs.Turns.{first}
+use Rattle.loops.proofs.Turns.{first}
 use Rattle.multipliers.proofs.Turns.{next_number}
 use Rattle.multipliers.proofs.refinement.second_norm.Goals as goal
 

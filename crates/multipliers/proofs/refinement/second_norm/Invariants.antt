@@ -2,7 +2,7 @@
 use lib.Ieee.{nan}
 use lib.ListN.{length, get_or}
 use Rattle.multipliers.specs.Refinement.{finite_max_norm}
-use Rattle.exact.proofs.Turns.{Turn}
+use Rattle.loops.proofs.Turns.{Turn}
 use Rattle.multipliers.proofs.refinement.second_norm.Given as goal
 
 abbrev pub invariant-loop-x : goal.invariant-loop-x

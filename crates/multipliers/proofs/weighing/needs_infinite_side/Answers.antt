@@ -1,7 +1,7 @@
 -- `needs_infinite_side` meets its contract. Assumes nothing.
 use mathlib.Core.Path.{refl}
 use lib.Ieee.{of_bits}
-use Rattle.cdouble.proofs.Contracts.{when_true, when_false}
+use Rattle.loops.proofs.Branches.{when_true, when_false}
 use Rattle.multipliers.proofs.weighing.needs_infinite_side.Goals as goal
 
 pub returns-then-y_value : goal.returns-then-y_value

@@ -9,7 +9,7 @@ use Rattle.std.proofs.Common.{tests}
 use Rattle.std.specs.List.{list_all}
 use Rattle.std.proofs.lemmas.Iterator.{YieldsList-from_slice}
 use Rattle.std.proofs.lemmas.Iterator.Search.{all_from_yields_List}
-use Rattle.questions.proofs.All.{all_front}
+use Rattle.loops.proofs.All.{all_front}
 use Rattle.questions.proofs.basis.all_one.Goals as goal
 
 pub returns : goal.returns

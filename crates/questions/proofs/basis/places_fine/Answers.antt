@@ -8,7 +8,7 @@ use lib.ListN.{length, get_or}
 use Rattle.std.proofs.Common.{tests}
 use Rattle.std.proofs.lemmas.Iterator.{YieldsList-from_slice, YieldsList-from_zip}
 use Rattle.std.proofs.lemmas.Iterator.Search.{all_from_yields_List}
-use Rattle.questions.proofs.All.{all_pairs, all_same}
+use Rattle.loops.proofs.All.{all_pairs, all_same}
 use Rattle.questions.proofs.PlaceTests.{or_set}
 use Rattle.questions.proofs.basis.places_fine.Goals as goal
 

@@ -4,7 +4,7 @@ use borrow.Author.Rules.{rules}
 use Rattle.std.proofs.Common.{tests}
 use Rattle.std.proofs.lemmas.Iterator.{YieldsList-from_slice}
 use Rattle.std.proofs.lemmas.Iterator.Search.{all_from_yields_List}
-use Rattle.questions.proofs.All.{all_places}
+use Rattle.loops.proofs.All.{all_places}
 use lib.Ieee.{nan}
 use Rattle.questions.specs.Questions.{plain, all_plain}
 use Rattle.questions.proofs.lists.all_plain.Goals as goal

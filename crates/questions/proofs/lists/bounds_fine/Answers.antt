@@ -4,7 +4,7 @@ use borrow.Author.Rules.{rules}
 use Rattle.std.proofs.Common.{tests}
 use Rattle.std.proofs.lemmas.Iterator.{YieldsList-from_slice, YieldsList-from_zip}
 use Rattle.std.proofs.lemmas.Iterator.Search.{all_from_yields_List}
-use Rattle.questions.proofs.All.{all_pairs}
+use Rattle.loops.proofs.All.{all_pairs}
 use lib.Ieee.{Float, nan}
 use Rattle.questions.specs.Questions.{range_fine, bounds_fine}
 use Rattle.questions.proofs.lists.bounds_fine.Goals as goal

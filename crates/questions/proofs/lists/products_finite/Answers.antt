@@ -5,7 +5,7 @@ use borrow.Author.Rules.{rules}
 use Rattle.std.proofs.Common.{tests}
 use Rattle.std.proofs.lemmas.Iterator.{YieldsList-from_slice}
 use Rattle.std.proofs.lemmas.Iterator.Search.{all_from_yields_List}
-use Rattle.questions.proofs.All.{all_places}
+use Rattle.loops.proofs.All.{all_places}
 use lib.Ieee.{Float, binary64, mul, nan}
 use lib.Ieee.Scale.{finite}
 use Rattle.questions.proofs.lists.products_finite.Goals as goal

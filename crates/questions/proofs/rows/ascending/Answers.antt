@@ -5,7 +5,7 @@ use Prim.Native.Nat.{ℕ}
 use lib.Dec.{ltb}
 use Rattle.std.proofs.Common.{tests}
 use Rattle.std.proofs.lemmas.Fn.{always_returns_same}
-use Rattle.questions.proofs.All.{all_neighbours}
+use Rattle.loops.proofs.All.{all_neighbours}
 use Rattle.questions.proofs.rows.ascending.Goals as goal
 
 pub returns : goal.returns

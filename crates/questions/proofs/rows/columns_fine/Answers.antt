@@ -5,7 +5,7 @@ use borrow.Author.Rules.{rules}
 use Rattle.std.proofs.Common.{tests}
 use Rattle.std.proofs.lemmas.Iterator.{YieldsList-from_range}
 use Rattle.std.proofs.lemmas.Iterator.Search.{all_from_yields_List}
-use Rattle.questions.proofs.All.{all_range}
+use Rattle.loops.proofs.All.{all_range}
 use Rattle.questions.specs.RowQuestions.{row_columns_fine_at, columns_fine}
 use Rattle.questions.proofs.rows.columns_fine.Goals as goal
 

@@ -7,4 +7,4 @@ use Rattle.sheet.proofs.answers.lengths_fine.Goals as goal
 
 pub returns : goal.returns
 unfolding lengths_fit
-returns c = together (eqb (length c.args.s.now.integer.now) c.args.s.now.structurals) (eqb (length c.args.s.now.widened_ups.now) (length c.args.s.now.widened_variables.now)) c.rows_fit.ensures c.variables_fit.ensures c.outputs_fit.ensures
+returns c = λ widened. together (eqb (length c.args.s.now.integer.now) c.args.s.now.structurals) c.rows_fit.ensures c.variables_fit.ensures c.outputs_fit.ensures

@@ -3,7 +3,7 @@ use Rattle.sheet.proofs.lent_doubles.sheet_of_doubles.Goals as goal
 
 pub returns : goal.returns
 returns c =
-    λ outputs. record {
+    λ widened outputs. record {
       entries_fit = c.slice_of_doubles.ensures;
       right_sides_fit = c.slice_of_doubles-2.ensures;
       scales_fit = c.slice_of_doubles-3.ensures;

@@ -1,6 +1,6 @@
 -- `read_rows` meets its contract. Assumes nothing.
 use Rattle.repeats.proofs.Runs.{Leads}
-use Rattle.text_lists.specs.declared.widened_list.Reached.{Reached}
+use Rattle.text_lists.specs.declared.row_lists.Reached.{Reached}
 use Rattle.text_lists.specs.Lent.{SameRows, lent_rows}
 use Rattle.text_lists.specs.Rows.{row_at, after_row, no_pair_yet}
 use Rattle.text_lists.proofs.Storing.{RowsLeft}

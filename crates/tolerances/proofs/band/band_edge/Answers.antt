@@ -7,7 +7,7 @@ use lib.Ieee.Scale.{finite}
 use Rattle.doubles.specs.Neighbours.{next_up, next_down}
 use Rattle.doubles.proofs.Tests.{fit}
 use Rattle.cdouble.specs.Compensated.{◌⊕◌, ◌⊖◌, plus_zero}
-use Rattle.cdouble.proofs.Contracts.{when_false, when_true}
+use Rattle.loops.proofs.Branches.{when_false, when_true}
 use Rattle.tolerances.specs.BandEdge.{band_start, step_back, band_edge, IsBandEdge}
 use Rattle.tolerances.proofs.BandEdge.{band_edge_law, band_edge_is}
 use Rattle.tolerances.proofs.band.band_edge.Goals as goal

@@ -6,10 +6,8 @@ use Prim.Native.Nat.{ℕ, ◌+◌, ◌≤◌}
 use lib.ListN.{length, replicate, length-replicate}
 use lib.Ieee.{of_bits}
 use Rattle.cdouble.specs.Compensated.{plus_zero}
-use Rattle.questions.specs.Limits.{most_entries, most_rows, most_structurals}
+use Rattle.questions.specs.Limits.{most_rows, most_structurals, most_entries, most_variables}
 use Rattle.sheet_text.specs.Lent.{SheetLists}
-use Rattle.widened_records.specs.Fewest.{most_widened}
-use Rattle.weigh_text.specs.Fronts.{most_variables}
 use Rattle.weigh_text.proofs.Reading.{Room, lists_have_room, lists-verdict, text_full, text_refused}
 use Rattle.weigh_text.proofs.text.text_verdict.Goals as goal
 
@@ -34,7 +32,6 @@ room =
         columns = replicate most_entries 0;
         entries = replicate most_entries plus_zero;
       };
-      widened = record { variables = replicate most_widened 0; ups = replicate most_widened 0 };
       rhos = record { rho_hi = replicate most_rows plus_zero; rho_lo = replicate most_rows plus_zero; second = replicate most_rows plus_zero };
     }
 
@@ -59,8 +56,6 @@ room-for-all =
             in_basic = filled {A = ℕ} most_variables 0;
             in_places = filled {A = ℕ} most_variables 0;
             in_values = filled most_variables plus_zero;
-            in_widened_vars = filled {A = ℕ} most_widened 0;
-            in_widened_ups = filled {A = ℕ} most_widened 0;
             in_rho_hi = filled most_rows plus_zero;
             in_rho_lo = filled most_rows plus_zero;
             in_second = filled most_rows plus_zero;
@@ -80,4 +75,5 @@ pub returns : goal.returns
 unfolding of_bits
 returns c =
     text_full c.args.text.now c.read_sheet-read.ensures.value c.follows_form.ensures (ap not c.if-not-follows_form.false)
-    (lists-verdict c.args.text.now room c.read_sheet-read.ensures.value c.read_sheet-read.ensures.lists room-for-all c.verdict_in.ensures)
+    (lists-verdict c.args.text.now room c.read_sheet-read.ensures.value c.read_sheet-read.ensures.lists room-for-all c.read_sheet-read.ensures.marks_after
+    c.verdict_in.ensures)

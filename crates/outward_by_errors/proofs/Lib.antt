@@ -1,0 +1,10 @@
+pub mod Limits
+pub mod Inexact
+pub mod Neighbour
+pub mod Rounded
+pub mod Running
+pub mod ZeroFactor
+pub mod OuterEnd
+pub mod NearestRank
+pub mod AddedStep
+pub mod AddedNext

@@ -1,0 +1,4 @@
+pub mod LargestWalk
+pub mod Entries
+pub mod Gap
+pub mod Congruence

@@ -1,0 +1,8 @@
+-- `unlimited` meets its contract. Assumes nothing.
+use mathlib.Core.Path.{refl}
+use lib.Ieee.{of_bits}
+use Rattle.outward_gap.proofs.largest.unlimited.Goals as goal
+
+pub returns : goal.returns
+unfolding of_bits
+returns c = refl

@@ -1,0 +1,4 @@
+pub mod Lent
+pub mod Reads
+pub mod Ends
+pub mod LargestWalk

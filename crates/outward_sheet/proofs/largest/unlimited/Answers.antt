@@ -1,8 +1,0 @@
--- `unlimited` meets its contract. Assumes nothing.
-use mathlib.Core.Path.{refl}
-use lib.Ieee.{of_bits}
-use Rattle.outward_sheet.proofs.largest.unlimited.Goals as goal
-
-pub returns : goal.returns
-unfolding of_bits
-returns c = refl

@@ -1,9 +1,0 @@
-pub mod Counts
-pub mod Marked
-pub mod ListedMarks
-pub mod Front
-pub mod Searched
-pub mod ManyWidened
-pub mod FewestItems
-pub mod Items
-pub mod Fronts
