@@ -155,7 +155,7 @@ module _ (kept other : KeptRows) (m n : Rows) (sound : SoundRows m) (rows : Same
   gap_same g =
       let each = parts_finite kept m.count in
       let ends : all_below m.count (λ r. finite_parts (kept r)) ≡ true → (v : ℕ) → v < m.variables → (cl kept m v ≡ cl other n v) × (cu kept m v ≡ cu other n v) =
-          λ all v less. (cl_same (each all) v, cu_same (each all) v) in
+      λ all v less. (cl_same (each all) v, cu_same (each all) v) in
       where-all (all_below m.count (λ r. finite_parts (kept r))) (inf true)
       (λ all. limits_same (cl kept m) (cu kept m) (cl other n) (cu other n) g m.variables (ends all) ∙ ap (λ (k : ℕ). all_below k (limited_at (cl other n) (cu other n) g)) (sym rows.variables_same))
       (λ all.

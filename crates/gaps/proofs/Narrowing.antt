@@ -112,9 +112,10 @@ module _ (l u low high wide_low wide_high_lem : Float) (N : Narrowed l u low hig
     both_within : (edge : Float) → T (finite edge) → InOrder wide_low edge → InOrder edge wide_high_lem → T (le (product_up l edge) wide_term) × T (le (product_up u edge) wide_term)
     both_within edge t o r =
         let in_low = low_in_term l u wide_low wide_high_lem l_finite u_finite l_fits u_fits wider in
-        let in_high = high_in_term l u wide_low wide_high_lem l_finite u_finite l_fits u_fits wider in
-        (product_within l edge l_finite (≼_refl (exact l)) ends (λ h. (in_low h).0) (λ h. (in_high h).0) t o r,
-        product_within u edge u_finite ends (≼_refl (exact u)) (λ h. (in_low h).1) (λ h. (in_high h).1) t o r)
+        let in_high = high_in_term l u wide_low wide_high_lem l_finite u_finite l_fits u_fits wider in (
+          product_within l edge l_finite (≼_refl (exact l)) ends (λ h. (in_low h).0) (λ h. (in_high h).0) t o r,
+          product_within u edge u_finite ends (≼_refl (exact u)) (λ h. (in_low h).1) (λ h. (in_high h).1) t o r,
+        )
 
     term_order : InOrder (term l u low high) wide_term
     term_order =

@@ -41,7 +41,7 @@ module _ (kept : KeptRows) (m : Rows) (g : Ranges) (sound : SoundRows m) (ranges
 
     at_variable : (v : ℕ) → v < m.variables → T (finite (taken_at kept m g v))
         × ((sum : Float) (z : ℤ) → Bounds upward 2148 z sum → Bounds upward 2148 (z +ℤ coefficient kept m v *ℤ exact (taken_at kept m g v))
-            (with_term (cl kept m v) (cu kept m v) (g.low v) (g.high v) sum))
+        (with_term (cl kept m v) (cu kept m v) (g.low v) (g.high v) sum))
     at_variable v less =
         with_term_lem (cl kept m v) (cu kept m v) (g.low v) (g.high v) (coefficient kept m v) (cl_bounds kept m sound finite_parts_lem v) (cu_bounds kept m sound finite_parts_lem v) (ranges v less)
         (all_at (limited_at (cl kept m) (cu kept m) g) m.variables limits v less)

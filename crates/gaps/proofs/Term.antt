@@ -211,6 +211,6 @@ module _ (l u low high : Float) (f : T (finite l)) (k : T (finite u)) (a : T (fi
       → T (le (term l u low high) x)
   term_least x some at_low at_high =
       let by : (edge : Float) → T (le (product_up l edge) x) × T (le (product_up u edge) x) → T (le (at_edge l u edge) x) =
-          λ edge h. larger_ind (λ z. T (le z x)) (product_up l edge) (product_up u edge) h.0 h.1 in
+      λ edge h. larger_ind (λ z. T (le z x)) (product_up l edge) (product_up u edge) h.0 h.1 in
       term_ind (λ z. T (le z x)) some (λ p _. by low (at_low p)) (λ _ q. by high (at_high q))
       (λ p q. larger_ind (λ z. T (le z x)) (at_edge l u low) (at_edge l u high) (by low (at_low p)) (by high (at_high q)))

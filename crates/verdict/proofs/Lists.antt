@@ -95,7 +95,7 @@ module _ (s : Sheet) (accepted : Accepted s) where
         (counted : (v : ℕ) → v < variables s → get_or terms v 0 ≡ get_or (certificate_of s).lists_of.terms v 0) {widened said : ℕ → Bool → Bool} (same : widened ≡ said)
         {low high : List Float}
         (ends : (low ≡ listed (variables s) (range_end (model_with s widened) leaving terms false))
-          × (high ≡ listed (variables s) (range_end (model_with s widened) leaving terms true))) where
+        × (high ≡ listed (variables s) (range_end (model_with s widened) leaving terms true))) where
       -- a variable that is not skipped has terms, so its range is written
       contained : (v : ℕ) → v < variables s → skipped (cl (kept_of s) (rows_of s) v) (cu (kept_of s) (rows_of s) v) ≡ false → eqb (get_or terms v 0) 0 ≡ false
       contained v less counts = go (eqb (get_or terms v 0) 0) refl

@@ -70,6 +70,14 @@ module _ (m : Model) (leaving : ℕ) (estimated : Bool) (l : Lists) (errors : Li
         bounded_few = omega arith;
       }
 
+-- no variable is left
+pub through : {m : Model} {leaving : ℕ} {estimated : Bool} {l : Lists} {errors : List Float} {first last : ℕ} {before : Walk} {left : Range ℕ} {w : Walk}
+    → Walking m leaving estimated l errors first last before left w → left.end ≤ left.start
+    → walked w Through ≡ walk_from m leaving estimated l errors first (last - first) before
+through {m} {leaving} {estimated} {l} {errors} {first} {last} {before} {left} turn done =
+    let all : left.start - first ≡ last - first = omega (arith, turn.to_last, turn.within, done) in
+    sym turn.so_far ∙ ap (λ (n : ℕ). walk_from m leaving estimated l errors first n before) all
+
 module _ {m : Model} {leaving : ℕ} {estimated : Bool} {l : Lists} {errors : List Float} {first last : ℕ} {before : Walk} {left after : Range ℕ} {w : Walk}
     (turn : Walking m leaving estimated l errors first last before left w) where
   -- the range gave the variable v

@@ -5,7 +5,7 @@ use lib.Ieee.{of_bits}
 use Rattle.std.proofs.Common.{tests}
 use Rattle.walk.specs.States.{at_infinity}
 use Rattle.walk.specs.Step.{step}
-use Rattle.walk.proofs.Turns.{none_walked, next, ended}
+use Rattle.walk.proofs.Turns.{none_walked, through, next, ended}
 use Rattle.walk.proofs.steps.walk_over.Goals as goal
 
 pub walk-init : goal.walk-init
@@ -37,3 +37,6 @@ returns-then-not-is_finite-3 c = ended c.walk.invariant c.in-Some.ensures.steps 
 pub returns-else-abs-error : goal.returns-else-abs-error
 unfolding step at_infinity of_bits
 returns-else-abs-error c = ended c.walk.invariant c.in-Some.ensures.steps (search (rules, tests)) tt
+
+pub returns-in_default : goal.returns-in_default
+returns-in_default c = through c.walk.invariant (omega (arith, c.in_default.ensures.steps))
