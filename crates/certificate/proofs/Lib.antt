@@ -5,3 +5,5 @@ pub mod Readable
 pub mod AddedLengths
 pub mod Slices
 pub mod Turns
+pub mod Keeping
+pub mod Everywhere

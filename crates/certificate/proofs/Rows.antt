@@ -37,9 +37,8 @@ module _ {m : System} {r count : ℕ} {c : Certificate} (goes : RowGoesOn m r co
         room = λ v less. omega (arith, goes.counted.few v less, columns_long, goes.readable.rises, goes.readable.inside, goes.small);
       }
 
-  pub errors_fit : ErrorsFit count m.basic (row_columns m r) (row_entries m r) c.errors
-  errors_fit =
-      record { same = entries_long; within = goes.readable.within; in_basic = goes.readable.in_basic; in_errors = goes.lent.in_errors }
+  pub errors_fit : ErrorsFit count (row_columns m r) (row_entries m r) c.errors
+  errors_fit = record { same = entries_long; within = goes.readable.within; in_errors = goes.lent.in_errors }
 
   pub sums_fit : (c.sums_of.terms + 1 + length (row_columns m r) < 2 ^ 64) × (c.sums_of.rows + 1 < 2 ^ 64) × (c.sums_of.zeroed + 1 < 2 ^ 64)
   sums_fit = (

@@ -29,8 +29,7 @@ pub record RowFits (count : ℕ) (columns : List ℕ) (entries : List Float) (l 
   pub room : (v : ℕ) → v < count → get_or l.terms v 0 + length columns < 2 ^ 32
 
 -- a row that goes into the errors
-pub record ErrorsFit (count : ℕ) (basic columns : List ℕ) (entries errors : List Float) : Type 0 where
+pub record ErrorsFit (count : ℕ) (columns : List ℕ) (entries errors : List Float) : Type 0 where
   pub same : length entries ≡ length columns
   pub within : Within count columns
-  pub in_basic : count ≤ length basic
   pub in_errors : count ≤ length errors

@@ -3,3 +3,4 @@ pub mod Certificate
 pub mod Reads
 pub mod Added
 pub mod AddedReads
+pub mod Everywhere

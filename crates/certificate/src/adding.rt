@@ -1,7 +1,11 @@
 //! One row, times its multiplier, added to the errors and to the sums.
-ghost use Rattle.std.specs.Prelude.{◌≡◌, length, ◌+◌, ◌<◌, ◌^◌};
-ghost use Rattle.certificate.specs.Added.{after_errors, spread_into, summed, with_error};
+ghost use Rattle.std.specs.Prelude.{◌≡◌, get_or, length, set, ◌+◌, ◌<◌, ◌^◌};
+ghost use Rattle.std.specs.Float.{nan};
+ghost use Rattle.doubles.specs.Compare.{absolute};
+ghost use Rattle.cdouble.specs.Compensated.{◌⊕◌, ◌⊗◌};
+ghost use Rattle.certificate.specs.Added.{after_errors, spread_into, summed};
 ghost use Rattle.certificate.specs.AddedReads.{ErrorsFit};
+ghost use Rattle.certificate.specs.Everywhere.{everyone};
 
 use cdouble::CDouble;
 use double_bits::abs;
@@ -18,30 +22,22 @@ pub struct Sums {
     pub zeroed: usize,
 }
 
-/// One entry's share of an error, if its variable is in the basis.
-fn add_error(distance: f64, basic: &[u8], v: usize, a: f64, errors: &mut [f64])
-    requires { (v < length basic.now) × (v < length errors.old) }
-    ensures { errors.new ≡ with_error distance basic.now v a errors.old }
+/// One entry's share of an error.
+fn add_error(distance: f64, v: usize, a: f64, errors: &mut [f64])
+    requires { v < length errors.old }
+    ensures { errors.new ≡ set errors.old v (get_or errors.old v nan ⊕ distance ⊗ absolute a) }
 {
-    if basic[v] != 0 {
-        errors[v] += distance * abs(a);
-    }
+    errors[v] += distance * abs(a);
 }
 
-/// A row's shares, entry by entry.
-fn add_errors(
-    count: usize,
-    distance: f64,
-    basic: &[u8],
-    columns: &[usize],
-    entries: &[f64],
-    errors: &mut [f64],
-)
-    requires { ErrorsFit count basic.now columns.now entries.now errors.old }
-    ensures { errors.new ≡ after_errors distance basic.now columns.now entries.now (length columns.now) errors.old }
+/// A row's shares, entry by entry, for each of `count` variables.
+// Kept: an entry of any variable is added, since which are in the basis follows no pattern that a processor foresees; `keep_basic` asks once for each variable.
+fn add_errors(count: usize, distance: f64, columns: &[usize], entries: &[f64], errors: &mut [f64])
+    requires { ErrorsFit count columns.now entries.now errors.old }
+    ensures { errors.new ≡ after_errors distance (everyone count) columns.now entries.now (length columns.now) errors.old }
 {
     for (v, a) in columns.iter().zip(entries) {
-        add_error(distance, basic, *v, *a, errors);
+        add_error(distance, *v, *a, errors);
     }
 }
 
@@ -50,16 +46,15 @@ fn add_errors(
 pub fn spread_row(
     count: usize,
     spread: Option<f64>,
-    basic: &[u8],
     columns: &[usize],
     entries: &[f64],
     errors: &mut [f64],
 )
-    requires { ErrorsFit count basic.now columns.now entries.now errors.old }
-    ensures { errors.new ≡ spread_into spread basic.now columns.now entries.now errors.old }
+    requires { ErrorsFit count columns.now entries.now errors.old }
+    ensures { errors.new ≡ spread_into spread (everyone count) columns.now entries.now errors.old }
 {
     if let Some(distance) = spread {
-        add_errors(count, distance, basic, columns, entries, errors);
+        add_errors(count, distance, columns, entries, errors);
     }
 }
 

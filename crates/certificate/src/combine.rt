@@ -1,11 +1,12 @@
 //! The rows added up, each times its multiplier, into a coefficient for each variable.
-ghost use Rattle.std.specs.Prelude.{◌≡◌, cond, length, replicate, ◌+◌, ◌≤◌};
+ghost use Rattle.std.specs.Prelude.{◌≡◌, cond, length, replicate, take, ◌+◌, ◌≤◌};
 ghost use Rattle.cdouble.specs.Compensated.{plus_zero};
 ghost use Rattle.certificate.specs.Added.{no_sums};
 ghost use Rattle.sheet.specs.Outputs.{SameSlices, lent_lists};
 ghost use Rattle.certificate.specs.AddedReads.{Long};
 ghost use Rattle.certificate.specs.System.{lent_system};
 ghost use Rattle.certificate.specs.Certificate.{after_rows, certificate, combined, empty, lists_over, over, with_row, written};
+ghost use Rattle.certificate.specs.Everywhere.{basic_only, everywhere, if_basic};
 ghost use Rattle.certificate.specs.Reads.{CertificateFits, RowGoesOn, RowsGoOn, Weighed};
 
 use crate::{Sums, keep_row, spread_row, summed};
@@ -14,7 +15,7 @@ use double_bits::abs;
 use multipliers::{Multiplier, spreads};
 use sheet::{Lists, Sheet};
 
-/// The row `r`.
+/// The row `r`, its errors added for every variable.
 fn add_row(
     s: &Sheet,
     count: usize,
@@ -26,9 +27,9 @@ fn add_row(
     c: Sums,
 ) -> Sums
     requires weighed { Weighed (lent_system s.now estimated) (r + 1) multipliers.now }
-    requires goes_on { RowGoesOn (lent_system s.now estimated) r count (certificate (lent_lists l.old) errors.old c) }
+    requires goes_on { RowGoesOn (everywhere count (lent_system s.now estimated)) r count (certificate (lent_lists l.old) errors.old c) }
     ensures same_slices { SameSlices l.old l.new }
-    ensures value { certificate (lent_lists l.new) errors.new result ≡ with_row (lent_system s.now estimated) r (certificate (lent_lists l.old) errors.old c) }
+    ensures value { certificate (lent_lists l.new) errors.new result ≡ with_row (everywhere count (lent_system s.now estimated)) r (certificate (lent_lists l.old) errors.old c) }
 {
     let m = multipliers[r];
     let spread = spreads(estimated, abs(s.second[r]), m);
@@ -37,7 +38,7 @@ fn add_row(
     let columns = &s.columns[start..end];
     let entries = &s.entries[start..end];
     keep_row(count, m, columns, entries, l);
-    spread_row(count, spread, s.basic, columns, entries, errors);
+    spread_row(count, spread, columns, entries, errors);
     summed(m, s.right_sides[r], columns.len(), c)
 }
 
@@ -51,9 +52,9 @@ fn add_rows(
     errors: &mut [f64],
 ) -> Sums
     requires weighed { Weighed (lent_system s.now estimated) s.now.rows multipliers.now }
-    requires go_on { RowsGoOn (lent_system s.now estimated) s.now.rows count (lent_lists l.old) errors.old }
+    requires go_on { RowsGoOn (everywhere count (lent_system s.now estimated)) s.now.rows count (lent_lists l.old) errors.old }
     ensures same_slices { SameSlices l.old l.new }
-    ensures value { certificate (lent_lists l.new) errors.new result ≡ after_rows (lent_system s.now estimated) s.now.rows (certificate (lent_lists l.old) errors.old no_sums) }
+    ensures value { certificate (lent_lists l.new) errors.new result ≡ after_rows (everywhere count (lent_system s.now estimated)) s.now.rows (certificate (lent_lists l.old) errors.old no_sums) }
 {
     let mut c = Sums {
         beta: CDouble { hi: 0.0, lo: 0.0 },
@@ -101,6 +102,33 @@ fn clear_errors(estimated: bool, count: usize, errors: &mut [f64])
     }
 }
 
+/// The error of a variable with this flag: 0 if it is not in the basis.
+fn if_basic(flag: u8, error: f64) -> f64
+    ensures { result ≡ if_basic flag error }
+{
+    if flag != 0 { error } else { 0.0 }
+}
+
+/// The errors of variables that are not in the basis made 0.
+fn keep_basic(basic: &[u8], errors: &mut [f64])
+    ensures { errors.new ≡ basic_only basic.now errors.old }
+{
+    // Kept: `v` goes to both lists. A sheet of no row may have fewer flags, and then nothing was added.
+    for v in 0..basic.len().min(errors.len()) {
+        errors[v] = if_basic(basic[v], errors[v]);
+    }
+}
+
+/// The first `count` errors, if there are error bounds, with those of variables that are not in the basis made 0.
+fn keep_basic_errors(estimated: bool, count: usize, basic: &[u8], errors: &mut [f64])
+    requires { count ≤ length errors.old }
+    ensures { errors.new ≡ cond estimated (over count (basic_only basic.now (take count errors.old)) errors.old) errors.old }
+{
+    if estimated {
+        keep_basic(basic, &mut errors[..count]);
+    }
+}
+
 // Kept: `estimated` is apart from the sheet, from which it is worked out once; a struct of both would be taken apart in each function.
 /// The certificate of the sheet's rows, each with its multiplier, over `count` variables, its lists written to the first `count` places.
 pub fn certificate(
@@ -118,5 +146,7 @@ pub fn certificate(
 {
     clear_lists(count, l);
     clear_errors(estimated, count, errors);
-    add_rows(s, count, estimated, multipliers, l, errors)
+    let c = add_rows(s, count, estimated, multipliers, l, errors);
+    keep_basic_errors(estimated, count, s.basic, errors);
+    c
 }
