@@ -8,3 +8,4 @@ pub mod OuterEnd
 pub mod NearestRank
 pub mod AddedStep
 pub mod AddedNext
+pub mod OneEdge

@@ -33,7 +33,7 @@ module _ (p q : Float) (f : T (finite p)) (g : T (finite q)) (hp : T (fits binar
       above (inl w) = w
       above (inr w) = absurd (subst T not_less (lt_of p q f g hp hq w))
 
-  larger_second : NotMinusZero p → NotMinusZero q → T (le p q) → larger p q ≡ q
+  pub larger_second : NotMinusZero p → NotMinusZero q → T (le p q) → larger p q ≡ q
   unfolding larger
   larger_second m n o = go (is_nan p) (lt p q) refl
     where
@@ -42,7 +42,7 @@ module _ (p q : Float) (f : T (finite p)) (g : T (finite q)) (hp : T (fits binar
       go false true e = refl
       go false false e = same m n o e
 
-  larger_first : exact q ≼ exact p → larger p q ≡ p
+  pub larger_first : exact q ≼ exact p → larger p q ≡ p
   unfolding larger
   larger_first o = go (is_nan p) (lt p q) refl refl
     where

@@ -1,4 +1,4 @@
-//! The larger of two multiples of a number, rounded up.
+//! The larger of two multiples of a number, rounded up, and the largest of the multiples of two.
 ghost use Rattle.std.specs.Prelude.{◌≡◌, cond};
 ghost use Rattle.std.specs.Float.Ieee.{lt};
 ghost use Rattle.doubles.specs.Compare.{larger};
@@ -31,5 +31,27 @@ pub fn larger_product(l: f64, u: f64, e: f64) -> f64
         near_product(x, CDouble::split(x), e, CDouble::split(e)).up
     } else {
         max(product_bounds(l, e).up, product_bounds(u, e).up)
+    }
+}
+
+/// The largest of `l` and `u` times `low` and `high`, rounded up. Where both pairs are in order, and `l` and `u` have one sign, it is that
+/// of one edge, which the sign tells.
+#[inline(always)]
+pub fn largest_product(l: f64, u: f64, low: f64, high: f64) -> f64
+    ensures { result ≡ larger (larger (product_up l low) (product_up u low)) (larger (product_up l high) (product_up u high)) }
+{
+    if within(l, CDouble::MOST_FACTOR)
+        & within(u, CDouble::MOST_FACTOR)
+        & within(low, CDouble::MOST_FACTOR)
+        & within(high, CDouble::MOST_FACTOR)
+        & (l <= u)
+        & (low <= high)
+        & (0.0 < l * u)
+    {
+        let e = outer(low, high, l);
+        let x = outer(l, u, e);
+        near_product(x, CDouble::split(x), e, CDouble::split(e)).up
+    } else {
+        max(larger_product(l, u, low), larger_product(l, u, high))
     }
 }

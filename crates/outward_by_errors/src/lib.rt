@@ -12,7 +12,7 @@ mod stepped;
 mod sums;
 mod upward;
 
-pub use larger::larger_product;
+pub use larger::{larger_product, largest_product};
 pub use products::product_bounds;
 pub use scaled::{Factor, factor_of, with_scaled};
 pub use sums::rounded_sum;

@@ -6,8 +6,8 @@ ghost use Rattle.outward_gap.specs.Lent.{ranges_lent};
 ghost use Rattle.outward_gap.specs.LargestWalk.{at, largest_or_infinite, stepped};
 
 use crate::Ends;
-use double_bits::{is_finite, max};
-use outward_by_errors::{larger_product, rounded_sum};
+use double_bits::is_finite;
+use outward_by_errors::{larger_product, largest_product, rounded_sum};
 
 /// Whether both ends of a coefficient are 0.
 fn skipped(l: f64, u: f64) -> bool
@@ -42,11 +42,10 @@ fn term(l: f64, u: f64, low: f64, high: f64) -> f64
     if !is_finite(low) {
         return larger_product(l, u, high);
     }
-    let at_low = larger_product(l, u, low);
     if !is_finite(high) {
-        return at_low;
+        return larger_product(l, u, low);
     }
-    max(at_low, larger_product(l, u, high))
+    largest_product(l, u, low, high)
 }
 
 /// The sum after a variable whose coefficient lies between `l` and `u` and which goes from `low` to `high`, if it has a limit.
