@@ -7,3 +7,4 @@ pub mod Slices
 pub mod Turns
 pub mod Keeping
 pub mod Everywhere
+pub mod Uncounted
