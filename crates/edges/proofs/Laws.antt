@@ -36,7 +36,7 @@ use Rattle.tolerances.proofs.BandEdge.{band_edge_law, band_edge-fits}
 use Rattle.edges.specs.declared.activity.Activity.{Activity}
 use Rattle.edges.specs.Model.{model_of, bound_of, tols_of}
 use Rattle.edges.specs.Activity.{activity, with_entry, after_entries, row_activity, row_terms, slack_room}
-use Rattle.edges.specs.Rooms.{rooms, slack_room_at, widening_room}
+use Rattle.edges.specs.Rooms.{magnitude_at, rooms, slack_room_at, widening_room}
 use Rattle.edges.specs.Edges.{leaving_variable, edge, low_edge, high_edge}
 use Rattle.edges.specs.Variables.{holds_on_bounds, holder_from}
 use Rattle.edges.specs.RoomReads.{RowReadable, Readable}
@@ -117,9 +117,6 @@ module _ (basic places : List ℕ) (p : ℕ) where
 abbrev pub tol_at : Sheet → ℕ → Float
 tol_at s r = s.feasibility ⊗ get_or s.scales r nan
 
-abbrev pub magnitude_at : Sheet → ℕ → Float
-magnitude_at s r = (row_activity s.structurals (get_or s.right_sides r nan) (part s.starts r s.columns) (part s.starts r s.entries) s.values).magnitude
-
 abbrev pub terms_at : Sheet → ℕ → ℕ
 terms_at s r = row_terms (part s.starts r s.columns)
 
@@ -174,22 +171,23 @@ module _ (s : Sheet) (accepted : Accepted s) where
 -- ---- an accepted sheet whose numbers are doubles
 module _ (s : Sheet) (accepted : Accepted s) (doubles : Doubles s) where
   -- ---- rooms
-  row_clear : (r : ℕ) → r < s.rows → Clear (tol_at s r) × Clear (magnitude_at s r)
+  row_clear : (r : ℕ) → r < s.rows → Clear (tol_at s r) × Clear (magnitude_at (model_of s) r)
   row_clear r less = (
     (mul-fits binary64 s.feasibility (get_or s.scales r nan), mul_clear s.feasibility (get_or s.scales r nan) (feasibility_plain s (all s accepted)).1 (scale_plain s (all s accepted) r less).1),
     magnitude_clear s.structurals (get_or s.right_sides r nan) (part s.starts r s.columns) (part s.starts r s.entries) s.values (doubles.right_sides_fit.fit_at r),
   )
 
   -- the argument of the `max` in `slack_room` is never −0
-  pub room_no_minus_zero : (r : ℕ) → r < s.rows → slack_tol (tol_at s r) (magnitude_at s r) (terms_at s r) ⊖ slack_margin (tol_at s r) (magnitude_at s r) (terms_at s r) ≡ fin true 0 (pos 0) → ⊥
-  room_no_minus_zero r less = let c = row_clear r less in no_minus_zero (tol_at s r) (magnitude_at s r) c.0.1 c.1.1 c.0.0 (terms_at s r)
+  pub room_no_minus_zero : (r : ℕ) → r < s.rows → let x = magnitude_at (model_of s) r in
+      slack_tol (tol_at s r) x (terms_at s r) ⊖ slack_margin (tol_at s r) x (terms_at s r) ≡ fin true 0 (pos 0) → ⊥
+  room_no_minus_zero r less = let c = row_clear r less in no_minus_zero (tol_at s r) (magnitude_at (model_of s) r) c.0.1 c.1.1 c.0.0 (terms_at s r)
 
   slack_room_lem : (r : ℕ) → r < s.rows → RoomHolds (slack_room_at (model_of s) r)
   unfolding slack_room
   slack_room_lem r less =
       let c = row_clear r less in
-      let law = trimmed_room_law (tol_at s r) (magnitude_at s r) (product_finite s (all s accepted) r less) c.0.0 c.1.0 c.0.1 c.1.1 (terms_at s r) in
-      (trimmed_room-fits (tol_at s r) (magnitude_at s r) (terms_at s r), law.0, law.1)
+      let law = trimmed_room_law (tol_at s r) (magnitude_at (model_of s) r) (product_finite s (all s accepted) r less) c.0.0 c.1.0 c.0.1 c.1.1 (terms_at s r) in
+      (trimmed_room-fits (tol_at s r) (magnitude_at (model_of s) r) (terms_at s r), law.0, law.1)
 
   tolerance_room : (v : ℕ) → v < variables s → (up : Bool) → RoomHolds (toward (tols_of (model_of s) v) up)
   unfolding toward

@@ -3,3 +3,4 @@ pub mod Laws
 pub mod KindLoops
 pub mod RowLoops
 pub mod Pairs
+pub mod Known

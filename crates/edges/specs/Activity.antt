@@ -26,6 +26,10 @@ unfoldable pub row_activity : ℕ → Float → List ℕ → List Float → List
 row_activity structurals right_side columns entries values =
     after_entries structurals values columns entries (length columns) (activity plus_zero (absolute right_side))
 
+-- the magnitude of a row by itself
+abbrev pub row_magnitude : ℕ → Row → List Float → Float
+row_magnitude structurals row values = (row_activity structurals row.right_side row.columns row.entries values).magnitude
+
 -- `row_terms`: the entries but the slack's
 abbrev pub row_terms : List ℕ → ℕ
 row_terms columns = length columns - 1

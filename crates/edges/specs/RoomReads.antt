@@ -1,9 +1,13 @@
 -- What the code reads of a model at one variable lies within the lent slices, and the variable has its marks. On an accepted sheet it does.
 -- The records name the lists and not the model, so that they are the same whatever is widened. Assumes nothing.
 use Rattle.std.specs.Prelude.{◌≡◌, List, ℕ, ◌+◌, ◌-◌, ◌≤◌, ◌<◌, length, get_or, Float}
+use Rattle.std.specs.Float.{nan}
 use Rattle.questions.specs.Limits.{most_variables}
 use Rattle.sheet.specs.declared.lent.Sheet.{Sheet as Slices}
 use Rattle.edges.specs.Model.{Model}
+use Rattle.edges.specs.Activity.{row_magnitude}
+use Rattle.edges.specs.Row.{row_at}
+use Rattle.edges.specs.Rooms.{magnitude_at}
 
 -- of the row of a slack
 pub record RowReads (starts columns : List ℕ) (right_sides scales : List Float) (r : ℕ) : Type 0 where
@@ -40,3 +44,23 @@ abbrev pub LentReads : Slices → ℕ → Type 0
 LentReads s v =
     VariableReads s.structurals s.starts.now s.columns.now s.integer.now s.entries.now s.right_sides.now s.scales.now s.mins.now s.maxs.now s.low_tolerances.now
     s.high_tolerances.now s.values.now v
+
+-- of a row of a sheet's lent slices, its entries and the values of their variables
+pub record RowAtValues (structurals : ℕ) (starts columns : List ℕ) (entries right_sides scales values : List Float) (r : ℕ) : Type 0 where
+  pub row : RowReads starts columns right_sides scales r
+  pub entries_long : length entries ≡ length columns
+  pub values_long : structurals ≤ length values
+
+abbrev pub LentRow : Slices → ℕ → Type 0
+LentRow s r = RowAtValues s.structurals s.starts.now s.columns.now s.entries.now s.right_sides.now s.scales.now s.values.now r
+
+-- a list has the magnitude of the row whose slack is v, if v is one
+abbrev pub HasMagnitude : ℕ → (ℕ → Float) → List Float → ℕ → Type 0
+HasMagnitude structurals magnitude list v = structurals ≤ v → let r = v - structurals in (r < length list) × (get_or list r nan ≡ magnitude r)
+
+abbrev pub Known : Model → List Float → ℕ → Type 0
+Known m list v = HasMagnitude m.structurals (magnitude_at m) list v
+
+abbrev pub LentKnown : Slices → List Float → ℕ → Type 0
+LentKnown s list v =
+    HasMagnitude s.structurals (λ r. row_magnitude s.structurals (row_at s.starts.now s.columns.now s.entries.now s.right_sides.now s.scales.now r) s.values.now) list v

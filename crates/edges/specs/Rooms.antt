@@ -5,7 +5,7 @@ use Rattle.tolerances.specs.declared.BoundTols.{BoundTols}
 use Rattle.tolerances.specs.Tolerances.{toward}
 use Rattle.edges.specs.Model.{Model, tols_of}
 use Rattle.edges.specs.Row.{Row, row_at}
-use Rattle.edges.specs.Activity.{slack_room}
+use Rattle.edges.specs.Activity.{row_magnitude, slack_room}
 
 -- the row r, and the room of its slack
 abbrev pub row_of : Model → ℕ → Row
@@ -13,6 +13,10 @@ row_of m r = row_at m.starts m.columns m.entries m.right_sides m.scales r
 
 abbrev pub slack_room_at : Model → ℕ → Float
 slack_room_at m r = slack_room m.structurals m.feasibility (row_of m r) m.values
+
+-- the magnitude of the row r at the values, on which that room rests
+abbrev pub magnitude_at : Model → ℕ → Float
+magnitude_at m r = row_magnitude m.structurals (row_of m r) m.values
 
 -- the rooms of a variable's two bounds where they are not widened: "for a structural variable its tolerance toward that side; else `slack_room`"
 abbrev pub rooms : Float → Float → BoundTols

@@ -1,7 +1,8 @@
 //! A row at the sheet's values.
 ghost use Rattle.std.specs.Prelude.{◌≡◌, ◌≤◌, length};
-ghost use Rattle.edges.specs.Row.{lent_row};
-ghost use Rattle.edges.specs.Activity.{row_activity, row_terms, slack_room, with_entry};
+ghost use Rattle.cdouble.specs.Compensated.{◌⊗◌};
+ghost use Rattle.tolerances.specs.Tolerances.{trimmed_room};
+ghost use Rattle.edges.specs.Activity.{row_activity, row_terms, with_entry};
 
 use crate::Row;
 use double_bits::abs;
@@ -61,20 +62,10 @@ pub fn row_terms(columns: &[usize]) -> usize
     columns.len().saturating_sub(1)
 }
 
-/// How far the row's slack may move past its bound where it is not leaving.
-#[tactic(auto, unfolding(crate::specs::Activity::slack_room))]
-pub fn slack_room(structurals: usize, feasibility: f64, row: &Row, values: &[f64]) -> f64
-    requires entries_len { length row.now.entries.now ≡ length row.now.columns.now }
-    requires structurals_in_bounds { structurals ≤ length values.now }
-    ensures { result ≡ slack_room structurals feasibility (lent_row row.now) values.now }
+/// How far the row's slack may move past its bound where it is not leaving, from the row's magnitude: no entry is read.
+pub fn slack_room(feasibility: f64, row: &Row, magnitude: f64) -> f64
+    ensures { result ≡ trimmed_room (feasibility ⊗ row.now.scale) magnitude (row_terms row.now.columns.now) }
 {
     let tol = feasibility * row.scale;
-    let a = row_activity(
-        structurals,
-        row.right_side,
-        row.columns,
-        row.entries,
-        values,
-    );
-    trimmed_room(tol, a.magnitude, row_terms(row.columns))
+    trimmed_room(tol, magnitude, row_terms(row.columns))
 }

@@ -24,4 +24,4 @@ returns-then-holds_on_bounds c =
 pub returns : goal.returns
 returns c =
     edge_widened (lent_model c.args.s.now c.args.marks.now) c.args.leaving c.args.v c.args.up c.bound_of-bound.ensures c.is_finite.ensures (ap not c.if-not-is_finite.false)
-    c.if-v-leaving.false c.holds_on_bounds.ensures c.if-holds_on_bounds.false c.widening_room.ensures c.band_edge-2.ensures.0
+    c.if-v-leaving.false c.holds_on_bounds.ensures c.if-holds_on_bounds.false c.widening_room-room.ensures c.band_edge-2.ensures.0
