@@ -82,6 +82,9 @@ module _ {m : Model} {leaving : ℕ} {estimated : Bool} {l : Lists} {errors : Li
     (turn : Walking m leaving estimated l errors first last before left w) where
   -- the range gave the variable v
   module _ {v : ℕ} (gave : (after.end ≡ left.end) × ((0 < left.end - left.start) × (v ≡ left.start) × (after.start ≡ left.start + 1))) where
+    pub below_last : v < last
+    below_last = omega (arith, gave.1.0, gave.1.1, turn.to_last)
+
     here : first + (left.start - first) ≡ v
     here = omega (arith, turn.from_first, gave.1.1)
 

@@ -55,13 +55,14 @@ pub fn walk_over(
     marks: &Marks,
     estimated: bool,
     leaving: usize,
+    row_magnitudes: &[f64],
     l: &Lists,
     errors: &[f64],
     first: usize,
     last: usize,
     before: Walk,
 ) -> Walked
-    requires { WalkFits (lent_model s.now marks.now) first last (lent_lists l.now) errors.now before }
+    requires { WalkFits (lent_model s.now marks.now) row_magnitudes.now first last (lent_lists l.now) errors.now before }
     ensures { result ≡ walk_from (lent_model s.now marks.now) leaving estimated (lent_lists l.now) errors.now first (last - first) before }
 {
     let mut w = before;
@@ -92,7 +93,7 @@ pub fn walk_over(
             }
             break 'walk End::Unlimited;
         }
-        let end = edge(s, marks, leaving, v, up);
+        let end = edge(s, marks, leaving, row_magnitudes, v, up);
         w = counted(v == leaving, c, bound, end, w);
     };
     Walked { walk: w, end }

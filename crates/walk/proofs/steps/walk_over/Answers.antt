@@ -1,11 +1,14 @@
 -- `walk_over` meets its contract. Assumes nothing.
 use native.Mathlib.Omega.{arith}
 use borrow.Author.Rules.{rules}
-use lib.Ieee.{of_bits}
+use mathlib.Core.Path.{ap, sym, ◌∙◌}
+use lib.Ieee.{Float, eq, of_bits}
 use Rattle.std.proofs.Common.{tests}
+use Rattle.cdouble.specs.Compensated.{plus_zero, value}
+use Rattle.walk.specs.declared.states.Coefficient.{Coefficient}
 use Rattle.walk.specs.States.{at_infinity}
 use Rattle.walk.specs.Step.{step}
-use Rattle.walk.proofs.Turns.{none_walked, through, next, ended}
+use Rattle.walk.proofs.Turns.{none_walked, through, below_last, next, ended}
 use Rattle.walk.proofs.steps.walk_over.Goals as goal
 
 pub walk-init : goal.walk-init
@@ -19,8 +22,14 @@ pub walk-preserved-then-abs-error : goal.walk-preserved-then-abs-error
 unfolding step at_infinity of_bits
 walk-preserved-then-abs-error c = next c.walk.invariant c.in-Some.ensures.steps (search (rules, tests))
 
-pub edge-end-requires : goal.edge-end-requires
-edge-end-requires c = c.requires.readable c.in-Some.v (omega (arith, c.in-Some.ensures.steps.1.0, c.in-Some.ensures.steps.1.1, c.walk.invariant.to_last))
+pub edge-end-requires-clause-readable : goal.edge-end-requires-clause-readable
+edge-end-requires-clause-readable c = c.requires.readable c.in-Some.v (below_last c.walk.invariant c.in-Some.ensures.steps)
+
+pub edge-end-requires-clause-known : goal.edge-end-requires-clause-known
+unfolding of_bits
+edge-end-requires-clause-known c =
+    c.requires.known c.in-Some.v (below_last c.walk.invariant c.in-Some.ensures.steps)
+    (ap (λ (x : Float). eq x plus_zero) (ap (λ (k : Coefficient). value k.p) (sym c.coefficient_at-c.ensures) ∙ sym c.value-p.ensures) ∙ c.if-p.false)
 
 pub walk-preserved : goal.walk-preserved
 unfolding step at_infinity of_bits
