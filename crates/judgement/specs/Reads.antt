@@ -7,7 +7,7 @@ use Rattle.walk.specs.Walk.{started}
 use Rattle.walk.specs.Reads.{WalkFits}
 use Rattle.judgement.specs.CutReads.{LeavingFits}
 
--- a judgement over count variables
-pub record JudgeFits (m : Model) (count leaving : ℕ) (l : Lists) (errors : List Float) (c : Sums) : Type 0 where
-  pub walk_fits : WalkFits m 0 count l errors (started c)
+-- a judgement over count variables, with the rows' magnitudes
+pub record JudgeFits (m : Model) (row_magnitudes : List Float) (count leaving : ℕ) (l : Lists) (errors : List Float) (c : Sums) : Type 0 where
+  pub walk_fits : WalkFits m row_magnitudes 0 count l errors (started c)
   pub leaving_fits : LeavingFits m leaving

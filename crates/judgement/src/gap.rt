@@ -35,15 +35,27 @@ fn walk_all(
     count: usize,
     estimated: bool,
     leaving: usize,
+    row_magnitudes: &[f64],
     c: Sums,
     l: &Lists,
     errors: &[f64],
 ) -> Walked
-    requires { JudgeFits (lent_model s.now marks.now) count leaving (lent_lists l.now) errors.now c }
+    requires { JudgeFits (lent_model s.now marks.now) row_magnitudes.now count leaving (lent_lists l.now) errors.now c }
     ensures { result ≡ walk_over (lent_model s.now marks.now) leaving estimated (certificate (lent_lists l.now) errors.now c) count }
 {
     let before = started(c);
-    walk_over(s, marks, estimated, leaving, l, errors, 0, count, before)
+    walk_over(
+        s,
+        marks,
+        estimated,
+        leaving,
+        row_magnitudes,
+        l,
+        errors,
+        0,
+        count,
+        before,
+    )
 }
 
 /// The judgement of a certificate over `count` variables.
@@ -54,14 +66,25 @@ pub fn judge(
     count: usize,
     estimated: bool,
     leaving: usize,
+    row_magnitudes: &[f64],
     c: Sums,
     l: &Lists,
     errors: &[f64],
 ) -> Proof
-    requires { JudgeFits (lent_model s.now marks.now) count leaving (lent_lists l.now) errors.now c }
+    requires { JudgeFits (lent_model s.now marks.now) row_magnitudes.now count leaving (lent_lists l.now) errors.now c }
     ensures { result ≡ judgement (lent_model s.now marks.now) leaving estimated count (certificate (lent_lists l.now) errors.now c) }
 {
-    let walked = walk_all(s, marks, count, estimated, leaving, c, l, errors);
+    let walked = walk_all(
+        s,
+        marks,
+        count,
+        estimated,
+        leaving,
+        row_magnitudes,
+        c,
+        l,
+        errors,
+    );
     let w = walked.walk;
     let sums = compensated_error(w.terms, w.longest, w.magnitude);
     let others = add_up(w.room, sums);
