@@ -39,7 +39,7 @@ use Rattle.edges.specs.Activity.{activity, with_entry, after_entries, row_activi
 use Rattle.edges.specs.Rooms.{magnitude_at, rooms, slack_room_at, widening_room}
 use Rattle.edges.specs.Edges.{leaving_variable, edge, low_edge, high_edge}
 use Rattle.edges.specs.Variables.{holds_on_bounds, holder_from}
-use Rattle.edges.specs.RoomReads.{RowReadable, Readable}
+use Rattle.edges.specs.RoomReads.{RowAtValues, RowReadable, Readable}
 
 -- ---- what is to hold of an edge, whichever way it is chosen
 pub record EdgeHolds (bound : Float) (up : Bool) (e : Float) : Type 0 where
@@ -132,6 +132,9 @@ module _ (s : Sheet) (accepted : Accepted s) where
   lie = rows_lie s.rows s.entry_count s.starts all.starts_are_fine (by_row s all).starts_long
 
   -- ---- what the code reads lies within the slices
+  entries_same : length s.entries ≡ length s.columns
+  entries_same = (by_row s all).entries_long ∙ sym (by_row s all).columns_long
+
   row_readable : (r : ℕ) → r < s.rows → RowReadable (model_of s) r
   row_readable r less =
       record {
@@ -141,6 +144,9 @@ module _ (s : Sheet) (accepted : Accepted s) where
         in_right_sides = omega (arith, (by_row s all).right_sides_long);
         in_scales = omega (arith, (by_row s all).scales_long);
       }
+
+  pub row_at_values : (r : ℕ) → r < s.rows → RowAtValues s.structurals s.starts s.columns s.entries s.right_sides s.scales s.values r
+  row_at_values r less = record { row = row_readable r less; entries_long = entries_same; values_long = omega (arith, (by_variable s all).values_long) }
 
   pub readable : (v : ℕ) → v < variables s → Readable (model_of s) v
   readable v less =
@@ -154,7 +160,7 @@ module _ (s : Sheet) (accepted : Accepted s) where
         minimums = omega (arith, (by_variable s all).mins_long);
         maximums = omega (arith, (by_variable s all).maxs_long);
         values_long = omega (arith, (by_variable s all).values_long);
-        entries_long = (by_row s all).entries_long ∙ sym (by_row s all).columns_long;
+        entries_long = entries_same;
         row = λ slack. row_readable (v - s.structurals) (omega arith);
       }
 

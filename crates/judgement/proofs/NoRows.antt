@@ -58,7 +58,7 @@ rows_left y count (suc n) none =
     (here.1 ∙ left.0, here.2 left.1)
 
 -- ---- the walk skips every variable
-value-zero : eq (value (pair plus_zero plus_zero)) plus_zero ≡ true
+pub value-zero : eq (value (pair plus_zero plus_zero)) plus_zero ≡ true
 unfolding value add eq
 value-zero = refl
 

@@ -1,14 +1,14 @@
 -- What the functions ask of a sheet, on an accepted one. Assumes nothing.
 use native.Mathlib.Omega.{arith}
 use mathlib.Core.Path.{◌≡◌, sym, subst}
-use mathlib.Core.Bool.{Bool, true}
+use mathlib.Core.Bool.{Bool, true, false}
 use mathlib.Core.List.{List, [], ◌∷◌}
 use Prim.Native.Nat.{ℕ, ◌+◌, ◌-◌, ◌<◌, ◌≤◌, ◌^◌}
 use borrow.Author.Tests.{leb-true}
 use lib.Dec.{leb}
 use lib.ListN.{length, get_or, length-replicate, get_or-replicate}
-use lib.Ieee.{Float}
-use Rattle.cdouble.specs.Compensated.{plus_zero}
+use lib.Ieee.{Float, eq}
+use Rattle.cdouble.specs.Compensated.{plus_zero, value}
 use Rattle.loops.proofs.All.{each}
 use Rattle.sheet.specs.Sheet.{Sheet, variables}
 use Rattle.sheet.specs.Answers.{Accepted}
@@ -17,7 +17,9 @@ use Rattle.sheet.proofs.Accepted.{AllYes, all_yes, sizes_hold}
 use Rattle.sheet.proofs.Consequences.{lengths, by_row, by_variable}
 use Rattle.edges.specs.Model.{model_with}
 use Rattle.edges.specs.Edges.{leaving_variable}
+use Rattle.edges.specs.RoomReads.{Known}
 use Rattle.edges.proofs.Laws.{readable, leaving_holds}
+use Rattle.certificate.specs.Added.{pair_at}
 use Rattle.certificate.specs.Certificate.{Certificate, empty, combined}
 use Rattle.certificate.specs.Reads.{Lent, RowsGoOn, CertificateFits}
 use Rattle.certificate.proofs.Rows.{rows-counted}
@@ -107,13 +109,15 @@ module _ (s : Sheet) (accepted : Accepted s) where
         omega (arith, (rows-counted empty_goes_on s.rows (omega arith)).terms_few, last_start, small, few_variables, (by_row s all).columns_long)
 
     -- ---- the judgement, whatever is said of the widened variables
-    pub judge_fits : (widened : ℕ → Bool → Bool) (l : Lists) (e : List Float) {c : Sums} → Lent (variables s) l e → c ≡ certificate_with.sums_of
-        → JudgeFits (model_with s widened) (variables s) (leaving_variable s) l e c
-    judge_fits widened l e long is =
+    pub judge_fits : (widened : ℕ → Bool → Bool) (list : List Float) (l : Lists) (e : List Float) {c : Sums} → Lent (variables s) l e → c ≡ certificate_with.sums_of
+        → ((v : ℕ) → v < variables s → eq (value (pair_at l.high l.low v)) plus_zero ≡ false → Known (model_with s widened) list v)
+        → JudgeFits (model_with s widened) list (variables s) (leaving_variable s) l e c
+    judge_fits widened list l e long is known =
         record {
           walk_fits =
               record {
                 readable = readable s accepted;
+                known = known;
                 lent = long;
                 terms_small = let terms = subst (λ (c : Sums). c.terms + variables s < 2 ^ 64) (sym is) terms_small in omega (arith, terms);
                 zero_small = omega (arith, few_variables);

@@ -1,3 +1,4 @@
 pub mod Fits
 pub mod Whole
 pub mod Places
+pub mod Measured

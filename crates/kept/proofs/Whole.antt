@@ -14,9 +14,11 @@ use Rattle.sheet.specs.Sheet.{Sheet, variables}
 use Rattle.sheet.specs.Answers.{Accepted, first_no}
 use Rattle.edges.specs.Model.{Model, model_with}
 use Rattle.edges.specs.Edges.{leaving_variable}
+use Rattle.edges.specs.Ranges.{magnitude_in}
 use Rattle.certificate.specs.declared.adding.Sums.{Sums}
 use Rattle.multipliers.specs.declared.weighing.Multiplier.{Multiplier}
 use Rattle.multipliers.specs.declared.weighing.Multiplier.TheVariants.{Dropped}
+use Rattle.loops.specs.Listed.{listed}
 use Rattle.loops.proofs.Listed.{length-listed, listed_at}
 use Rattle.certificate.specs.System.{System, system_of, multiplier_at}
 use Rattle.certificate.specs.Certificate.{Certificate, certificate, combined, over, written}
@@ -35,6 +37,7 @@ use Rattle.sheet.proofs.RefusalNumbers.{not_zero}
 use Rattle.kept.specs.Kept.{WorkedOut, certificate_of, filled_in, after}
 use Rattle.kept.proofs.Places.{place_written}
 use Rattle.kept.proofs.Fits.{certificate_fits, combined-lent, judge_fits}
+use Rattle.kept.proofs.Measured.{magnitudes_known}
 
 -- ---- what is written over the lent lists, below count
 over-long : {A : Type 0} (count : ℕ) (xs ys : List A) → count ≤ length xs → count ≤ length (over count xs ys)
@@ -109,17 +112,6 @@ module _ (s : Sheet) {estimated : Bool} {leaving : ℕ} {multipliers : List Mult
 
   module _ (accepted : Accepted s) (l : Lists) (e : List Float) (lends : s.outputs ≡ outputs l e) {k : Lists} {f : List Float} {c : Sums}
       (is : certificate k f c ≡ written estimated (variables s) (combined (with_bounds s estimated) s.rows (variables s)) l e) where
-    pub judge_asks : (widened : ℕ → Bool → Bool) → JudgeFits (model_with s widened) (variables s) leaving k f c
-    unfolding written
-    judge_asks widened =
-        let up = is_set s.leaving_up in
-        subst (λ (v : ℕ). JudgeFits (model_with s widened) (variables s) v k f c) (sym found.leaving_is)
-        (judge_fits s accepted estimated up widened k f
-        (subst (λ (x : Certificate). Lent (variables s) x.lists_of x.errors) (sym is)
-        (written-long estimated (combined (with_bounds s estimated) s.rows (variables s)) l e (combined-lent s accepted estimated up)
-        (certificate_fits s accepted l e lends estimated up).lent.in_errors))
-        (ap (λ (x : Certificate). x.sums_of) is))
-
     writes : certificate k f c ≡ written (system_of s).estimated (variables s) (certificate_of s) l e
     unfolding certificate_of
     writes = is ∙ ap (λ (b : Bool). written b (variables s) (combined (with_bounds s b) s.rows (variables s)) l e) found.estimated_is
@@ -127,6 +119,20 @@ module _ (s : Sheet) {estimated : Bool} {leaving : ℕ} {multipliers : List Mult
     pub filled_in_lem : lent k f ≡ filled_in s (lent l e)
     unfolding filled_in
     filled_in_lem = ap (λ (x : Certificate). lent x.lists_of x.errors) writes
+
+    -- with the magnitudes that are written of the terms counted
+    pub judge_asks : (widened : ℕ → Bool → Bool) {list : List Float} → list ≡ listed s.rows (magnitude_in (model_with s widened) k.terms)
+        → JudgeFits (model_with s widened) list (variables s) leaving k f c
+    unfolding written
+    judge_asks widened {list} magnitudes =
+        let up = is_set s.leaving_up in
+        subst (λ (v : ℕ). JudgeFits (model_with s widened) list (variables s) v k f c) (sym found.leaving_is)
+        (judge_fits s accepted estimated up widened list k f
+        (subst (λ (x : Certificate). Lent (variables s) x.lists_of x.errors) (sym is)
+        (written-long estimated (combined (with_bounds s estimated) s.rows (variables s)) l e (combined-lent s accepted estimated up)
+        (certificate_fits s accepted l e lends estimated up).lent.in_errors))
+        (ap (λ (x : Certificate). x.sums_of) is)
+        (magnitudes_known s (lent l e) filled_in_lem widened magnitudes))
 
     -- the judgement of the sheet, with what is said of the widened variables
     pub kept_is : {widened said : ℕ → Bool → Bool} {p : Proof} → widened ≡ said

@@ -1,12 +1,13 @@
 -- The kept numbers of a sheet, and what is lent afterwards: document 01, "Kept, and written anew" and "Questions put to the input".
 -- Assumes nothing.
-use Rattle.std.specs.Prelude.{◌≡◌, Bool, cond, List, ℕ, eqb}
+use Rattle.std.specs.Prelude.{◌≡◌, Bool, cond, List, ℕ, eqb, Float}
 use Rattle.loops.specs.Listed.{listed}
 use Rattle.sheet.specs.Sheet.{Sheet, variables}
 use Rattle.sheet.specs.Outputs.{Lent, lent}
 use Rattle.sheet.specs.Answers.{first_no}
 use Rattle.edges.specs.Model.{model_of}
 use Rattle.edges.specs.Edges.{leaving_variable}
+use Rattle.edges.specs.Ranges.{magnitude_in}
 use Rattle.multipliers.specs.declared.weighing.Multiplier.{Multiplier}
 use Rattle.certificate.specs.System.{system_of, multiplier_at}
 use Rattle.certificate.specs.Certificate.{Certificate, combined, written}
@@ -20,6 +21,10 @@ certificate_of s = combined (system_of s) s.rows (variables s)
 -- `proof_of`: "Reference answer: `Solver::proof_of`, with the lists and row count of the `certificate` it builds"
 unfoldable pub proof_of : Sheet → Proof
 proof_of s = judgement (model_of s) (leaving_variable s) (system_of s).estimated (variables s) (certificate_of s)
+
+-- the magnitudes of the rows at the values, of the rows whose slacks the certificate counts terms of
+abbrev pub magnitudes_of : Sheet → List Float
+magnitudes_of s = listed s.rows (magnitude_in (model_of s) (certificate_of s).lists_of.terms)
 
 -- what is worked out of a sheet once, for both reckonings: whether there are error bounds, which variable leaves, and what becomes of each
 -- row's multiplier

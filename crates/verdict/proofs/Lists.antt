@@ -123,16 +123,3 @@ module _ (s : Sheet) (accepted : Accepted s) where
           (ap length ends.0 ∙ length-listed (variables s) (range_end (model_with s widened) leaving terms false))
           ∙ gap_same (rows_of s) (λ r. get_or multipliers r Dropped) (kept_of s) multiplier-is g (ranges_in (model_with s said) (leaving_variable s))
           (λ v less counts. let has = contained v less counts in (end_is false ends.0 v less has, end_is true ends.1 v less has))
-
--- ---- what the certificate counts stands in the lent list of counts
-pub counts_stand : (s : Sheet) (before : Lent) {now : Lent} → now ≡ filled_in s before
-    → ((v : ℕ) → v < variables s → get_or now.lists_of.terms v 0 ≡ get_or (certificate_of s).lists_of.terms v 0) × (variables s ≤ length now.lists_of.terms)
-unfolding filled_in written
-counts_stand s before {now} is =
-    let stands : now.lists_of.terms ≡ over (variables s) (certificate_of s).lists_of.terms before.lists_of.terms = ap (λ (x : Lent). x.lists_of.terms) is in
-    let long = (certificate_sized s).terms_long in (
-      λ v less.
-          ap (λ (xs : List ℕ). get_or xs v 0) stands
-          ∙ place_written {n = variables s} (certificate_of s).lists_of.terms before.lists_of.terms 0 (omega (arith, long)) v less,
-      omega (arith, ap length stands, length-append (certificate_of s).lists_of.terms (drop (variables s) before.lists_of.terms), long),
-    )
