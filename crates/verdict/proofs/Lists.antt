@@ -6,7 +6,7 @@ use mathlib.Core.List.{List}
 use Prim.Native.Nat.{ℕ, ◌+◌, ◌<◌, ◌≤◌}
 use borrow.Author.Tests.{eqb-true}
 use lib.Dec.{eqb}
-use lib.ListN.{length, get_or, drop, length-append}
+use lib.ListN.{length, get_or}
 use lib.Ieee.{Float, nan, eq}
 use Rattle.loops.specs.Listed.{listed}
 use Rattle.loops.proofs.Listed.{length-listed, listed_at}
@@ -23,11 +23,8 @@ use Rattle.edges.specs.Ranges.{range_end}
 use Rattle.multipliers.specs.declared.weighing.Multiplier.{Multiplier}
 use Rattle.multipliers.specs.declared.weighing.Multiplier.TheVariants.{Dropped}
 use Rattle.certificate.specs.System.{system_of, right_side_at, row_columns, row_entries}
-use Rattle.certificate.specs.Certificate.{over, written}
 use Rattle.certificate.proofs.Readable.{lie}
-use Rattle.kept.specs.Kept.{certificate_of, filled_in}
-use Rattle.sheet.specs.Outputs.{Lent}
-use Rattle.kept.proofs.Places.{certificate_sized, place_written}
+use Rattle.kept.specs.Kept.{certificate_of}
 use Rattle.gaps.specs.Rows.{Rows, Ranges, kept_of, rows_of, ranges_in}
 use Rattle.gaps.specs.Steps.{cl, cu, skipped, outward_gap}
 use Rattle.verdict.proofs.Uncontained.{uncontained}

@@ -21,15 +21,16 @@ fn outward_in(
     marks: &Marks,
     leaving: usize,
     multipliers: &[Multiplier],
+    row_magnitudes: &[f64],
     terms: &[u32],
     low: &mut [f64],
     high: &mut [f64],
 ) -> f64
-    requires reads { OutwardReads s.now leaving multipliers.now terms.now }
+    requires reads { OutwardReads s.now leaving multipliers.now row_magnitudes.now terms.now }
     requires each_has { (length low.old ≡ s.now.structurals + s.now.rows) × (length high.old ≡ s.now.structurals + s.now.rows) }
     ensures { (widened : List Widened) (outputs : Outputs) → holds marks.now ≡ is_widened widened → result ≡ outward_of (lent_sheet s.now widened outputs) }
 {
-    write_ranges(s, marks, leaving, terms, low, high);
+    write_ranges(s, marks, leaving, row_magnitudes, terms, low, high);
     let rows = Rows {
         starts: s.starts,
         columns: s.columns,
@@ -39,16 +40,17 @@ fn outward_in(
     outward_gap(&rows, multipliers, &Ends { low, high })
 }
 
-/// The outward gap of a sheet whose leaving variable and multipliers were worked out before, and so were the terms counted of each
-/// variable.
+/// The outward gap of a sheet whose leaving variable, multipliers and rows' magnitudes were worked out before, and so were the terms
+/// counted of each variable.
 pub(crate) fn outward_of(
     s: &Sheet,
     marks: &Marks,
     leaving: usize,
     multipliers: &[Multiplier],
+    row_magnitudes: &[f64],
     l: &Lists,
 ) -> f64
-    requires { OutwardReads s.now leaving multipliers.now l.now.terms.now }
+    requires { OutwardReads s.now leaving multipliers.now row_magnitudes.now l.now.terms.now }
     ensures { (widened : List Widened) (outputs : Outputs) → holds marks.now ≡ is_widened widened → result ≡ outward_of (lent_sheet s.now widened outputs) }
 {
     let count = s.structurals + s.rows;
@@ -60,6 +62,7 @@ pub(crate) fn outward_of(
         marks,
         leaving,
         multipliers,
+        row_magnitudes,
         l.terms,
         &mut low[..count],
         &mut high[..count],

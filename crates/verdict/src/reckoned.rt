@@ -29,16 +29,17 @@ fn with_outward(proof: Proof, outward: f64) -> Verdict
     }
 }
 
-/// The verdict on an accepted sheet, whose multipliers are written to a list with a place for each row.
+/// The verdict on an accepted sheet, whose multipliers and rows' magnitudes are written to lists with a place for each row.
 fn reckoned_with(
     s: &Sheet,
     marks: &Marks,
     multipliers: &mut [Multiplier],
+    row_magnitudes: &mut [f64],
     l: &mut Lists,
     errors: &mut [f64],
 ) -> Verdict
     requires accepted { Accepted (sheet_lent s.now [] l.old errors.old) }
-    requires each_has { length multipliers.old ≡ s.now.rows }
+    requires each_has { (length multipliers.old ≡ s.now.rows) × (length row_magnitudes.old ≡ s.now.rows) }
     ensures promised { (widened : List Widened) → holds marks.now ≡ is_widened widened → (let whole = sheet_lent s.now widened l.old errors.old in
         (result ≡ full_verdict whole) × (lent (lent_lists l.new) errors.new ≡ filled_in whole (lent (lent_lists l.old) errors.old))) }
     ensures same_slices { SameSlices l.old l.new }
@@ -46,8 +47,18 @@ fn reckoned_with(
     let estimated = error_bounds(s);
     let leaving = leaving_variable(s.basic, s.places, s.leaving_row);
     write_multipliers(s, estimated, multipliers);
-    let proof = proof_of(s, marks, estimated, leaving, multipliers, l, errors);
-    with_outward(proof, outward_of(s, marks, leaving, multipliers, l))
+    let proof = proof_of(
+        s,
+        marks,
+        estimated,
+        leaving,
+        multipliers,
+        row_magnitudes,
+        l,
+        errors,
+    );
+    let outward = outward_of(s, marks, leaving, multipliers, row_magnitudes, l);
+    with_outward(proof, outward)
 }
 
 /// The verdict on an accepted sheet. It is that of the sheet with any widened list that says what the marks say.
@@ -57,7 +68,15 @@ pub(crate) fn reckoned(s: &Sheet, marks: &Marks, l: &mut Lists, errors: &mut [f6
         (result ≡ full_verdict whole) × (lent (lent_lists l.new) errors.new ≡ filled_in whole (lent (lent_lists l.old) errors.old))) }
     ensures same_slices { SameSlices l.old l.new }
 {
-    // Kept: an array of the largest size, since there is no heap and the limits of a sheet are fixed.
+    // Kept: arrays of the largest size, since there is no heap and the limits of a sheet are fixed.
     let mut multipliers = [Multiplier::Dropped; MOST_ROWS];
-    reckoned_with(s, marks, &mut multipliers[..s.rows], l, errors)
+    let mut row_magnitudes = [0.0; MOST_ROWS];
+    reckoned_with(
+        s,
+        marks,
+        &mut multipliers[..s.rows],
+        &mut row_magnitudes[..s.rows],
+        l,
+        errors,
+    )
 }

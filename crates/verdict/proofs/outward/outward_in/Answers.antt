@@ -3,14 +3,18 @@ use native.Mathlib.Omega.{arith}
 use mathlib.Core.Path.{ap, sym, ◌∙◌}
 use mathlib.Core.Bool.{true, false}
 use mathlib.Core.List.{[]}
-use Prim.Native.Nat.{ℕ}
+use Prim.Native.Nat.{ℕ, ◌<◌}
+use lib.Dec.{eqb}
 use lib.ListN.{length}
 use Rattle.loops.specs.Listed.{listed}
 use Rattle.loops.proofs.Listed.{length-listed}
 use Rattle.sheet.specs.Lent.{lent_sheet}
-use Rattle.edges.specs.Model.{lent_model}
+use Rattle.sheet.specs.Sheet.{variables}
+use Rattle.edges.specs.Model.{lent_model, model_of}
 use Rattle.edges.specs.Ranges.{range_end}
+use Rattle.edges.proofs.Known.{known_counted}
 use Rattle.edges.proofs.Laws.{readable}
+use Rattle.kept.specs.Kept.{certificate_of}
 use Rattle.gaps.specs.Steps.{outward_of}
 use Rattle.verdict.proofs.Lists.{few_variables, rows_lie, entries_same, each_has, gap_is}
 use Rattle.verdict.proofs.outward.outward_in.Goals as goal
@@ -19,6 +23,14 @@ pub write_ranges-requires-clause-readable : goal.write_ranges-requires-clause-re
 write_ranges-requires-clause-readable c =
     let reads = c.requires.reads in
     λ v less. readable (lent_sheet c.args.s.now [] reads.outputs) reads.accepted v (omega (arith, c.requires.each_has.0))
+
+pub write_ranges-requires-clause-known : goal.write_ranges-requires-clause-known
+write_ranges-requires-clause-known c =
+    let reads = c.requires.reads in
+    let s = lent_sheet c.args.s.now [] reads.outputs in
+    λ v less has.
+    let inside : v < variables s = omega (arith, c.requires.each_has.0) in
+    known_counted (model_of s) (certificate_of s).lists_of.terms s.rows reads.magnitudes_are v inside (ap (λ (n : ℕ). eqb n 0) (sym (reads.counted v inside)) ∙ has)
 
 pub write_ranges-requires-clause-lengths : goal.write_ranges-requires-clause-lengths
 write_ranges-requires-clause-lengths c = (c.requires.each_has.1 ∙ sym c.requires.each_has.0, omega (arith, c.requires.each_has.0, c.requires.reads.counts_long))
