@@ -17,7 +17,7 @@ use Rattle.kept.specs.Kept.{certificate_of}
 use Rattle.gaps.specs.Rows.{kept_of, rows_in, rows_of}
 use Rattle.gaps.specs.Steps.{Operation, after_entries, with_row, coefficient_after, cl, cu}
 
--- ---- a row that has v nowhere adds nothing to an end of its coefficient
+-- ---- a row without v adds nothing to an end of its coefficient
 module _ (y : CDouble) (columns : List ℕ) (entries : List Float) (v : ℕ) where
   nothing_added : (sum product : Operation) (n : ℕ) (c : Float) → Others columns v n → after_entries sum product y columns entries v n c ≡ c
   unfolding after_entries
