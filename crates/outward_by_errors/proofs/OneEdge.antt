@@ -9,7 +9,7 @@ use lib.Dec.{T}
 use lib.Ieee.{Float, binary64, fits, lt, le, neg}
 use lib.Ieee.Fits.{and_l, and_r, mul-fits}
 use lib.Ieee.Scale.{finite}
-use Rattle.exact.specs.Value.{exact}
+use Rattle.exact.specs.Value.{exact, exact_at}
 use Rattle.exact.specs.Integers.{◌≼◌, ◌≺◌}
 use Rattle.exact.proofs.Between.{nearest_below}
 use Rattle.exact.proofs.Compare.{le-exact, lt_to, lt_of}
@@ -38,7 +38,6 @@ pub record OneSign (l u low high : Float) : Type 0 where
   pub edges : T (le low high)
   pub product : T (lt plus_zero (l ⊗ u))
 
--- a record of the tests
 pub one_sign : (l u low high : Float) {p q r s : Bool} {m : Float} → Limit 510 m → T (fits binary64 l) → T (fits binary64 u) → T (fits binary64 low) → T (fits binary64 high)
     → p ≡ (le (neg m) l && le l m) → q ≡ (le (neg m) u && le u m) → r ≡ (le (neg m) low && le low m) → s ≡ (le (neg m) high && le high m)
     → ((((((p && q) && r) && s) && le l u) && le low high) && lt plus_zero (l ⊗ u)) ≡ true → OneSign l u low high
@@ -58,6 +57,9 @@ one_sign l u low high {p} {q} {r} {s} L hl hu hlow hhigh a b c d is =
       product = and_r (((((p && q) && r) && s) && le l u) && le low high) (lt plus_zero (l ⊗ u)) all_tests;
     }
 
+zero_times : (z : ℤ) → pos 0 *ℤ z ≡ pos 0
+zero_times = all _ λ z z'. simp differences (omega arith)
+
 module _ (l u low high : Float) (hl : T (fits binary64 l)) (hu : T (fits binary64 u)) (hlow : T (fits binary64 low)) (hhigh : T (fits binary64 high)) (w : OneSign l u low high) where
   ordered : exact low ≼ exact high
   ordered = (le-exact low high w.at_low.factor.is_finite w.at_high.factor.is_finite hlow hhigh).0 w.edges
@@ -65,28 +67,21 @@ module _ (l u low high : Float) (hl : T (fits binary64 l)) (hu : T (fits binary6
   -- a product that is not above 0 does not round to a number above 0
   not_below : exact l *ℤ exact u ≼ pos 0 → ⊥
   not_below h =
-      let f = w.at_low.first.is_finite in
-      let g = w.at_low.second.is_finite in
       let most = product_at_most l u hl hu w.at_low.first w.at_low.second in
-      elim (nearest_below (mul_nearest l u f g hl hu) plus_zero tt zero-fits (subst (λ (z : ℤ). exact l *ℤ exact u ≼ z) (sym (ap (λ (z : ℤ). z *ℤ pos (2 ^ 1074)) exact-zero ∙ nothing (pos (2 ^ 1074)))) h)) [
+      let zero : exact_at 1074 plus_zero ≡ pos 0 = ap (λ (z : ℤ). z *ℤ pos (2 ^ 1074)) exact-zero ∙ zero_times (pos (2 ^ 1074)) in
+      elim (nearest_below (mul_nearest l u w.at_low.first.is_finite w.at_low.second.is_finite hl hu) plus_zero tt zero-fits (subst (λ (z : ℤ). exact l *ℤ exact u ≼ z) (sym zero) h)) [
         | inl v ↦ ≺_not_≼ (lt_to plus_zero (l ⊗ u) tt most.is_finite zero-fits (mul-fits binary64 l u) w.product) v.1
         | inr e ↦ subst (λ (x : Float). T (finite x)) e most.is_finite
       ]
-    where
-      nothing : (z : ℤ) → pos 0 *ℤ z ≡ pos 0
-      nothing = all _ λ z z'. simp differences (omega arith)
 
-  mixed : (x y : ℤ) → pos 0 ≼ x → y ≼ pos 0 → x *ℤ y ≼ pos 0
-  mixed x y h k = subst (λ (z : ℤ). x *ℤ y ≼ z) (nothing x) (*_mono x y (pos 0) h k)
-    where
-      nothing : (z : ℤ) → z *ℤ pos 0 ≡ pos 0
-      nothing = all _ λ z z'. simp differences (omega arith)
+  unlike_signs : (x y : ℤ) → pos 0 ≼ x → y ≼ pos 0 → x *ℤ y ≼ pos 0
+  unlike_signs x y h k = subst (λ (z : ℤ). x *ℤ y ≼ z) (*ℤ_comm x (pos 0) ∙ zero_times x) (*_mono x y (pos 0) h k)
 
   l_above : exact u ≼ pos 0 → pos 0 ≼ exact l → ⊥
-  l_above k h = not_below (mixed (exact l) (exact u) h k)
+  l_above k h = not_below (unlike_signs (exact l) (exact u) h k)
 
   u_above : exact l ≼ pos 0 → pos 0 ≼ exact u → ⊥
-  u_above k h = not_below (subst (λ (z : ℤ). z ≼ pos 0) (*ℤ_comm (exact u) (exact l)) (mixed (exact u) (exact l) h k))
+  u_above k h = not_below (subst (λ (z : ℤ). z ≼ pos 0) (*ℤ_comm (exact u) (exact l)) (unlike_signs (exact u) (exact l) h k))
 
   -- so both are above 0, or both below
   sides : (pos 0 ≼ exact l × pos 0 ≼ exact u) ⊎ (exact l ≺ pos 0 × exact u ≼ pos 0)
