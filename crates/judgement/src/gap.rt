@@ -1,12 +1,10 @@
 //! The judgement of a walk over the variables, and of a certificate.
-ghost use Rattle.std.specs.Prelude.{◌≡◌, ◌<◌, length};
-ghost use Rattle.questions.specs.declared.widened.Marks.{Marks};
+ghost use Rattle.std.specs.Prelude.{◌≡◌};
 ghost use Rattle.edges.specs.Model.{lent_model};
-ghost use Rattle.edges.specs.RoomReads.{LentReads};
 ghost use Rattle.certificate.specs.Certificate.{certificate};
 ghost use Rattle.sheet.specs.Outputs.{lent_lists};
 ghost use Rattle.walk.specs.Walk.{walk_over};
-ghost use Rattle.judgement.specs.Judgement.{judged, judgement};
+ghost use Rattle.judgement.specs.Judgement.{judgement};
 ghost use Rattle.judgement.specs.Reads.{JudgeFits};
 
 use crate::cut::cut_at;
@@ -60,12 +58,33 @@ fn walk_all(
     )
 }
 
-/// The judgement of a walk over all variables.
-#[tactic(auto, unfolding(crate::specs::Judgement::judged))]
-fn judged(s: &Sheet, leaving: usize, c: Sums, walked: Walked) -> Proof
-    requires { LentReads s.now leaving × (leaving < length s.now.values.now) }
-    ensures { (marks : Marks) → result ≡ judged (lent_model s.now marks) leaving c walked }
+/// The judgement of a certificate over `count` variables.
+#[tactic(auto, unfolding(crate::specs::Judgement::judged, crate::specs::Judgement::judgement))]
+pub fn judge(
+    s: &Sheet,
+    marks: &Marks,
+    count: usize,
+    estimated: bool,
+    leaving: usize,
+    row_magnitudes: &[f64],
+    c: Sums,
+    l: &Lists,
+    errors: &[f64],
+) -> Proof
+    requires { JudgeFits (lent_model s.now marks.now) row_magnitudes.now count leaving (lent_lists l.now) errors.now c }
+    ensures { result ≡ judgement (lent_model s.now marks.now) leaving estimated count (certificate (lent_lists l.now) errors.now c) }
 {
+    let walked = walk_all(
+        s,
+        marks,
+        count,
+        estimated,
+        leaving,
+        row_magnitudes,
+        c,
+        l,
+        errors,
+    );
     let w = walked.walk;
     let sums = compensated_error(w.terms, w.longest, w.magnitude);
     let others = add_up(w.room, sums);
@@ -95,34 +114,4 @@ fn judged(s: &Sheet, leaving: usize, c: Sums, walked: Walked) -> Proof
         multipliers_zeroed: c.zeroed,
         rows: c.rows,
     }
-}
-
-/// The judgement of a certificate over `count` variables.
-#[tactic(auto, unfolding(crate::specs::Judgement::judgement))]
-pub fn judge(
-    s: &Sheet,
-    marks: &Marks,
-    count: usize,
-    estimated: bool,
-    leaving: usize,
-    row_magnitudes: &[f64],
-    c: Sums,
-    l: &Lists,
-    errors: &[f64],
-) -> Proof
-    requires { JudgeFits (lent_model s.now marks.now) row_magnitudes.now count leaving (lent_lists l.now) errors.now c }
-    ensures { result ≡ judgement (lent_model s.now marks.now) leaving estimated count (certificate (lent_lists l.now) errors.now c) }
-{
-    let walked = walk_all(
-        s,
-        marks,
-        count,
-        estimated,
-        leaving,
-        row_magnitudes,
-        c,
-        l,
-        errors,
-    );
-    judged(s, leaving, c, walked)
 }
