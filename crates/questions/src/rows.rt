@@ -14,11 +14,16 @@ pub fn starts_fine(rows: usize, entries: usize, starts: &[usize]) -> bool
     (starts[0] == 0) & starts.is_sorted() & (starts[rows] == entries)
 }
 
-/// Whether the columns but the last are structural, each below the next.
+/// Whether the columns but the last are structural, each below the next: all of them are where the last of them is.
 fn ascending(structurals: usize, columns: &[usize]) -> bool
     ensures { result ≡ all_below (length columns.now - 1) (column_fine_at structurals columns.now) }
 {
-    columns.is_sorted_by(|column, next| (*column < structurals) & (*column < *next))
+    match columns {
+        [.., before, _] => {
+            columns.is_sorted_by(|column, next| *column < *next) & (*before < structurals)
+        }
+        _ => true,
+    }
 }
 
 /// The fifth question, of one row.
