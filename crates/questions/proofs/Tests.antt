@@ -1,14 +1,13 @@
 -- What the branches of the questions' functions show. Assumes nothing.
-use mathlib.Core.Path.{◌≡◌, refl, ap, sym, ◌∙◌, subst}
-use mathlib.Core.Bool.{Bool, true, false, not, ◌&&◌}
+use native.Mathlib.Omega.{arith}
+use mathlib.Core.Path.{◌≡◌, refl, sym, ◌∙◌, subst}
+use mathlib.Core.Bool.{Bool, true, false}
 use Prim.Native.Nat.{ℕ}
-use borrow.Author.Tests.{ne_eqb}
-use Rattle.std.proofs.lemmas.Bool.{false≢true}
-use lib.Dec.{T}
-use lib.Ieee.{Float, nan, inf, fin}
-use Rattle.std.specs.Float.{is_sign_negative}
-use lib.Ieee.Scale.{finite}
-use Rattle.exact.specs.Value.{sign}
+use borrow.Author.Tests.{ne_eqb, le-ltb, lt-ltb}
+use lib.Dec.{T, ltb}
+use lib.Ieee.{Float, nan, inf, fin, binary64, fits, is_nan, to_bits}
+use Rattle.rank_arithmetic.specs.Rank.{infinity}
+use Rattle.doubles.proofs.Patterns.{pattern, ranked}
 use Rattle.questions.specs.Flags.{is_set}
 use Rattle.questions.specs.Questions.{plain}
 
@@ -16,16 +15,14 @@ use Rattle.questions.specs.Questions.{plain}
 pub passes : {b r : Bool} → r ≡ b → r ≡ true → T b
 passes {b} e t = subst T (sym t ∙ e) tt
 
--- ---- `is_plain`
-pub plain-finite : (x : Float) {r : Bool} → r ≡ finite x → r ≡ true → not (is_sign_negative x) ≡ plain x
-unfolding plain is_sign_negative
-plain-finite nan e t = absurd (false≢true (sym e ∙ t))
-plain-finite (inf s) e t = absurd (false≢true (sym e ∙ t))
-plain-finite (fin s m n) e t = refl
-
-pub plain_infinite : (x : Float) {r : Bool} → r ≡ finite x → r ≡ false → r ≡ plain x
-unfolding plain
-plain_infinite x e t = t ∙ ap (λ (b : Bool). b && not (sign x)) (sym t ∙ e)
+-- ---- `is_plain`: the pattern is below the infinity's
+pub plain_bits : (x : Float) → T (fits binary64 x) → ltb (to_bits binary64 x) infinity ≡ plain x
+unfolding plain to_bits is_nan
+plain_bits nan h = refl
+plain_bits (inf true) h = refl
+plain_bits (inf false) h = refl
+plain_bits (fin true m e) h = le-ltb _ _ (omega (arith, (pattern (fin true m e) tt h).bits))
+plain_bits (fin false m e) h = lt-ltb _ _ (omega (arith, (pattern (fin false m e) tt h).bits, (ranked (fin false m e) tt h).small))
 
 -- a flag of 0, and any other
 pub flag_clear : (flag : ℕ) → flag ≡ 0 → is_set flag ≡ false

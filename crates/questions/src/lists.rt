@@ -3,7 +3,8 @@ ghost use Rattle.std.specs.Prelude.{◌≡◌, length};
 ghost use Rattle.loops.specs.Places.{all_below};
 ghost use Rattle.questions.specs.Questions.{all_finite, all_plain, bounds_fine, leaving_row_fine, plain, product_finite_at, range_fine, tolerances_fine};
 
-use double_bits::is_finite;
+use double_bits::{INFINITY, is_finite};
+use std::num::f64_to_bits_with_nan;
 
 /// Whether every number is finite.
 pub fn all_finite(xs: &[f64]) -> bool
@@ -12,11 +13,11 @@ pub fn all_finite(xs: &[f64]) -> bool
     xs.iter().all(|x| is_finite(*x))
 }
 
-/// Whether `x` is finite with its sign bit clear.
+/// Whether `x` is finite with its sign bit clear, which is a pattern below the infinity's: a set sign bit and a NaN lie above it.
 fn is_plain(x: f64) -> bool
     ensures { result ≡ plain x }
 {
-    is_finite(x) && x.is_sign_positive()
+    f64_to_bits_with_nan(x) < INFINITY
 }
 
 /// Whether every number is.
