@@ -1,4 +1,5 @@
 pub mod Tests
+pub mod Asked
 pub mod Tallies
 pub mod Marked
 pub mod Searched

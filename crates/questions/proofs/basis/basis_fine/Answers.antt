@@ -1,8 +1,10 @@
 -- `basis_fine` meets its contract. Assumes nothing.
-use Rattle.questions.specs.Limits.{most_rows}
-use Rattle.questions.proofs.Tallies.{some_beyond, none_beyond, then_held, get_d_replicate}
+use native.Mathlib.Omega.{arith}
 use mathlib.Core.Path.{ap}
 use mathlib.Core.Bool.{not}
+use Prim.Native.Nat.{◌+◌}
+use Rattle.questions.specs.Limits.{most_rows}
+use Rattle.questions.proofs.Tallies.{some_beyond, then_held, get_d_replicate}
 use Rattle.questions.proofs.basis.basis_fine.Goals as goal
 
 pub returns-then-not-places_fine : goal.returns-then-not-places_fine
@@ -12,9 +14,9 @@ pub held_once-requires : goal.held_once-requires
 held_once-requires c =
     record {
       same = c.requires.1;
-      fine = none_beyond c.args.rows c.args.basic.now c.args.places.now c.places_fine.ensures (ap not c.if-not-places_fine.false);
-      room = c.requires.0;
-      zeros = λ p. get_d_replicate most_rows 0 p;
+      few = c.requires.0;
+      room = omega arith;
+      zeros = λ p. get_d_replicate (most_rows + 1) 0 p;
     }
 
 pub returns : goal.returns
