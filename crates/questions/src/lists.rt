@@ -10,7 +10,11 @@ use std::num::f64_to_bits_with_nan;
 pub fn all_finite(xs: &[f64]) -> bool
     ensures { result ≡ all_finite xs.now }
 {
-    xs.iter().all(|x| is_finite(*x))
+    let mut fine = true;
+    for x in xs {
+        fine = fine & is_finite(*x);
+    }
+    fine
 }
 
 /// Whether `x` is finite with its sign bit clear, which is a pattern below the infinity's: a set sign bit and a NaN lie above it.
@@ -24,7 +28,11 @@ fn is_plain(x: f64) -> bool
 fn all_plain(xs: &[f64]) -> bool
     ensures { result ≡ all_plain xs.now }
 {
-    xs.iter().all(|x| is_plain(*x))
+    let mut fine = true;
+    for x in xs {
+        fine = fine & is_plain(*x);
+    }
+    fine
 }
 
 /// Whether `x` times every number is finite.
