@@ -6,7 +6,7 @@ ghost use Rattle.questions.specs.Questions.{all_finite, all_plain, bounds_fine, 
 use double_bits::{INFINITY, is_finite};
 use std::num::f64_to_bits_with_nan;
 
-/// Whether every number is finite.
+/// Whether every number is finite. All are asked, with no way out before the last, and so the compiler asks several at a time.
 pub fn all_finite(xs: &[f64]) -> bool
     ensures { result ≡ all_finite xs.now }
 {

@@ -14,7 +14,7 @@ pub fn starts_fine(rows: usize, entries: usize, starts: &[usize]) -> bool
     (starts[0] == 0) & starts.is_sorted() & (starts[rows] == entries)
 }
 
-/// Whether the columns but the last are structural, each below the next: all of them are where the last of them is.
+/// Whether the columns but the last are structural, each below the next. Since each is, they are structural where the last of them is.
 fn ascending(structurals: usize, columns: &[usize]) -> bool
     ensures { result ≡ all_below (length columns.now - 1) (column_fine_at structurals columns.now) }
 {
