@@ -2,7 +2,7 @@
 use native.Mathlib.Omega.{arith}
 use mathlib.Core.Path.{◌≡◌, refl, ap, sym, subst, ◌∙◌}
 use mathlib.Core.Bool.{Bool, true, false, cond}
-use mathlib.Core.List.{List, [], ◌∷◌, ◌++◌}
+use mathlib.Core.List.{List, ◌++◌}
 use Prim.Native.Nat.{ℕ, zero, suc, ◌<◌, ◌≤◌}
 use lib.ListN.{length, get_or, set, take, drop, replicate, length-append, length-replicate, get_or-replicate}
 use lib.Seq.{set-get_or}
@@ -13,8 +13,7 @@ use Rattle.std.proofs.lemmas.Slice.{drop-append-drop}
 use Rattle.doubles.specs.Compare.{absolute}
 use Rattle.cdouble.specs.Compensated.{◌⊕◌, ◌⊗◌, plus_zero}
 use Rattle.questions.specs.Flags.{is_set}
-use Rattle.loops.specs.Listed.{each_place}
-use Rattle.loops.proofs.Listed.{each_place-at, is_each_place}
+use Rattle.loops.proofs.Listed.{each_place-at, each_place-set, is_each_place}
 use Rattle.multipliers.specs.Multipliers.{spreads}
 use Rattle.certificate.specs.declared.adding.Sums.{Sums}
 use Rattle.certificate.specs.System.{System, error_at, multiplier_at, right_side_at, row_columns, row_entries}
@@ -28,13 +27,6 @@ use Rattle.certificate.proofs.Lengths.{after_rows_same}
 use Rattle.certificate.proofs.Written.{certificate_is}
 use Rattle.sheet.specs.Outputs.{Lists}
 
--- ---- what a change of each place makes of one place that is set
-set_each : {A : Type 0} (g : ℕ → A → A) (xs : List A) (v : ℕ) (x : A) → each_place g (set xs v x) ≡ set (each_place g xs) v (g v x)
-unfolding each_place
-set_each g [] v x = refl
-set_each g (y ∷ xs) zero x = refl
-set_each g (y ∷ xs) (suc v) x = ap (λ t. g 0 y ∷ t) (set_each (λ k. g (suc k)) xs v x)
-
 -- ---- one entry's share of an error
 module _ (basic : List ℕ) where
   kept_there : (e : List Float) (v : ℕ) → v < length e → get_or (basic_only basic e) v nan ≡ kept_at basic v (get_or e v nan)
@@ -45,12 +37,12 @@ module _ (basic : List ℕ) where
       → basic_only basic (set e v (get_or e v nan ⊕ x)) ≡ cond b (set (basic_only basic e) v (get_or (basic_only basic e) v nan ⊕ x)) (basic_only basic e)
   share_kept e v x less true is =
       let there : get_or (basic_only basic e) v nan ≡ get_or e v nan = kept_there e v less ∙ ap (λ (b : Bool). cond b (get_or e v nan) plus_zero) is in
-      set_each (kept_at basic) e v (get_or e v nan ⊕ x)
+      each_place-set (kept_at basic) e v (get_or e v nan ⊕ x)
       ∙ ap (λ (b : Bool). set (basic_only basic e) v (cond b (get_or e v nan ⊕ x) plus_zero)) is
       ∙ ap (λ (y : Float). set (basic_only basic e) v (y ⊕ x)) (sym there)
   share_kept e v x less false is =
       let there : get_or (basic_only basic e) v nan ≡ plus_zero = kept_there e v less ∙ ap (λ (b : Bool). cond b (get_or e v nan) plus_zero) is in
-      set_each (kept_at basic) e v (get_or e v nan ⊕ x)
+      each_place-set (kept_at basic) e v (get_or e v nan ⊕ x)
       ∙ ap (λ (b : Bool). set (basic_only basic e) v (cond b (get_or e v nan ⊕ x) plus_zero)) is
       ∙ ap (set (basic_only basic e) v) (sym there)
       ∙ set-get_or (basic_only basic e) v nan

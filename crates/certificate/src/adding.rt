@@ -30,8 +30,8 @@ fn add_error(distance: f64, v: usize, a: f64, errors: &mut [f64])
     errors[v] += distance * abs(a);
 }
 
-/// A row's shares, entry by entry, for each of `count` variables.
-// Kept: an entry of any variable is added, since which are in the basis follows no pattern that a processor foresees; `keep_basic` asks once for each variable.
+/// A row's shares, entry by entry, for each of `count` variables: which of them are in the basis is asked once for each, by `keep_basic`, since a
+/// processor seldom foresees it.
 fn add_errors(count: usize, distance: f64, columns: &[usize], entries: &[f64], errors: &mut [f64])
     requires { ErrorsFit count columns.now entries.now errors.old }
     ensures { errors.new ≡ after_errors distance (everyone count) columns.now entries.now (length columns.now) errors.old }

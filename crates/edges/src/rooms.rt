@@ -56,9 +56,6 @@ pub fn widening_rooms(s: &Sheet, marks: &Marks, row_magnitudes: &[f64], v: usize
 {
     let low = marks.holds(v, false);
     let high = marks.holds(v, true);
-    if low && high {
-        return BoundTols { lo: 0.0, hi: 0.0 };
-    }
     let rooms = own_rooms(s, row_magnitudes, v);
     BoundTols {
         lo: unless_widened(low, rooms.lo),

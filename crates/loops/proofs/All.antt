@@ -1,4 +1,5 @@
--- Tests over all places below a number, and the loop that makes them one after another and leaves at the first that fails. Assumes nothing.
+-- Tests over all places below a number, and the loops that make them one after another: one leaves at the first that fails, one makes them all.
+-- Assumes nothing.
 use native.Mathlib.Omega.{arith}
 use native.Mathlib.Nat.{le_antisymm}
 use native.Mathlib.Numerals.{add-one}
@@ -17,6 +18,7 @@ use Rattle.std.proofs.lemmas.List.Folds.{list_all_more}
 use Rattle.std.proofs.lemmas.Slice.Zip.{length-zip, get_or-zip}
 use Rattle.exact.proofs.Naturals.{le_or_lt}
 use Rattle.loops.specs.Places.{all_below}
+use Rattle.loops.proofs.Turns.{Turn, begin, advance}
 
 -- both parts of a conjunction
 pub and_left : (a b : Bool) → (a && b) ≡ true → a ≡ true
@@ -129,3 +131,12 @@ module _ {test : ℕ → Bool} {n : ℕ} where
 
     pub done : n ≤ k → true ≡ all_below n test
     done end = sym turn.so_far ∙ ap (λ (m : ℕ). all_below m test) (le_antisymm turn.within end)
+
+-- ---- the loop that makes all of them
+pub none_asked : (test : ℕ → Bool) (n : ℕ) → Turn (λ k. all_below k test) n 0 true
+unfolding all_below
+none_asked test n = begin refl
+
+pub one_asked : (test : ℕ → Bool) {n k : ℕ} {fine r : Bool} → Turn (λ k. all_below k test) n k fine → k < n → r ≡ test k → Turn (λ k. all_below k test) n (k + 1) (fine && r)
+unfolding all_below
+one_asked test {k = k} {fine} turn less is = advance less (ap (λ (r : Bool). fine && r) is ∙ ap (λ (b : Bool). b && test k) turn.so_far)

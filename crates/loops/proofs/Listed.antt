@@ -48,6 +48,13 @@ pub is_each_place : {A : Type 0} (g : ℕ → A → A) (d : A) (xs ys : List A) 
 is_each_place g d xs ys long at =
     ext_get_or d ys (each_place g xs) (long ∙ sym (length-each_place g xs)) (λ k less. let inside : k < length xs = omega (arith, long) in at k inside ∙ sym (each_place-at g xs d k inside))
 
+-- one of them set
+pub each_place-set : {A : Type 0} (g : ℕ → A → A) (xs : List A) (v : ℕ) (x : A) → each_place g (set xs v x) ≡ set (each_place g xs) v (g v x)
+unfolding each_place
+each_place-set g [] v x = refl
+each_place-set g (y ∷ xs) zero x = refl
+each_place-set g (y ∷ xs) (suc v) x = ap (λ t. g 0 y ∷ t) (each_place-set (λ k. g (suc k)) xs v x)
+
 -- none
 pub each_place-none : {A : Type 0} (xs : List A) → xs ≡ each_place (λ k x. x) xs
 unfolding each_place

@@ -1,7 +1,7 @@
 -- The tests of magnitude, and how large sums and products come out. Assumes nothing.
 use mathlib.Core.Path.{◌≡◌, refl, sym, ap, ◌∙◌, subst}
 use mathlib.Core.Logic.{inr}
-use mathlib.Core.Bool.{Bool, true, false, ◌&&◌}
+use mathlib.Core.Bool.{Bool, true, false, cond, ◌&&◌}
 use Prim.Native.Nat.{ℕ, suc, ◌+◌, ◌-◌, ◌*◌, ◌%◌, ◌^◌, ◌≤◌, ◌<◌}
 use native.Mathlib.Nat.{div-one, le_refl, le_trans, mul-le-mul, two-pow-succ, add-suc}
 use native.Mathlib.Omega.{arith}
@@ -68,6 +68,10 @@ weaker j k x h R = record { is_finite = R.is_finite; cap = le_trans R.cap (pow_m
   where
     more : (j k : ℕ) → j ≤ k → 1074 + j ≤ 1074 + k
     more j k h = omega arith
+
+pub either_most : {k : ℕ} {x y : Float} → AtMost k x → AtMost k y → (t : Bool) → AtMost k (cond t x y)
+either_most r s true = r
+either_most r s false = s
 
 -- ---- the test `within`
 is_within : (k : ℕ) (x : Float) → T (fits binary64 x) → T (fits binary64 (power k)) → T (le (neg (power k)) x) → T (le x (power k)) → AtMost k x

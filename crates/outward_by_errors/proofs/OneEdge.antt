@@ -1,13 +1,14 @@
 -- Where both ends of a coefficient have one sign, the largest of their multiples of two edges is that of one edge. Assumes nothing.
 use mathlib.Core.Path.{◌≡◌, refl, sym, ap, ◌∙◌, subst}
 use mathlib.Core.Logic.{◌⊎◌, inl, inr}
+use mathlib.Core.List.{[], ◌∷◌}
 use mathlib.Core.Bool.{Bool, true, false, cond, ◌&&◌}
 use Prim.Native.Nat.{◌^◌}
 use native.Mathlib.Omega.{arith}
 use lib.IntN.{ℤ, pos, ◌*ℤ◌, *ℤ_comm}
 use lib.Dec.{T}
 use lib.Ieee.{Float, binary64, fits, lt, le, neg}
-use lib.Ieee.Fits.{and_l, and_r, mul-fits}
+use lib.Ieee.Fits.{mul-fits}
 use lib.Ieee.Scale.{finite}
 use Rattle.exact.specs.Value.{exact, exact_at}
 use Rattle.exact.specs.Integers.{◌≼◌, ◌≺◌}
@@ -16,6 +17,7 @@ use Rattle.exact.proofs.Compare.{le-exact, lt_to, lt_of}
 use Rattle.exact.proofs.Difference.{all, differences}
 use Rattle.exact.proofs.Operations.{mul_nearest}
 use Rattle.exact.proofs.Order.{≼_trans, ≼_or_≺, ≼_of_≺, ≺_not_≼, *_mono, *_anti}
+use Rattle.loops.proofs.All.{each}
 use Rattle.doubles.specs.Compare.{larger}
 use Rattle.doubles.specs.Directed.{round_up, product_up}
 use Rattle.doubles.proofs.Bounding.{product_finite}
@@ -27,7 +29,7 @@ use Rattle.cdouble.specs.Exactness.{AtMost}
 use Rattle.cdouble.proofs.RoundedUp.{exact-zero, zero-fits}
 use Rattle.outward_by_errors.specs.Far.{NotMinusZero}
 use Rattle.outward_by_errors.proofs.Inexact.{product_clear}
-use Rattle.outward_by_errors.proofs.Limits.{Limit, tested, product_at_most}
+use Rattle.outward_by_errors.proofs.Limits.{Limit, tested, either_most, product_at_most}
 use Rattle.outward_by_errors.proofs.OuterEnd.{InOrder, larger_first, larger_second, outer_larger, outer_most}
 use Rattle.outward_by_errors.proofs.Running.{product_fits, product_most}
 
@@ -42,20 +44,19 @@ pub one_sign : (l u low high : Float) {p q r s : Bool} {m : Float} → Limit 510
     → p ≡ (le (neg m) l && le l m) → q ≡ (le (neg m) u && le u m) → r ≡ (le (neg m) low && le low m) → s ≡ (le (neg m) high && le high m)
     → ((((((p && q) && r) && s) && le l u) && le low high) && lt plus_zero (l ⊗ u)) ≡ true → OneSign l u low high
 one_sign l u low high {p} {q} {r} {s} L hl hu hlow hhigh a b c d is =
-    let all_tests : T ((((((p && q) && r) && s) && le l u) && le low high) && lt plus_zero (l ⊗ u)) = subst T (sym is) tt in
-    let six = and_l (((((p && q) && r) && s) && le l u) && le low high) (lt plus_zero (l ⊗ u)) all_tests in
-    let five = and_l ((((p && q) && r) && s) && le l u) (le low high) six in
-    let four = and_l (((p && q) && r) && s) (le l u) five in
-    let three = and_l ((p && q) && r) s four in
-    let order = and_r (((p && q) && r) && s) (le l u) five in
-    let first = tested 510 l L hl a (and_l p q (and_l (p && q) r three)) in
-    let second = tested 510 u L hu b (and_r p q (and_l (p && q) r three)) in
+    let t = each p (q ∷ r ∷ s ∷ le l u ∷ le low high ∷ lt plus_zero (l ⊗ u) ∷ []) is in
+    let first = tested 510 l L hl a (holds t.0) in
+    let second = tested 510 u L hu b (holds t.1.0) in
+    let order = holds t.1.1.1.1.0 in
     record {
-      at_low = record { first = first; second = second; factor = tested 510 low L hlow c (and_r (p && q) r three); order = order };
-      at_high = record { first = first; second = second; factor = tested 510 high L hhigh d (and_r ((p && q) && r) s four); order = order };
-      edges = and_r ((((p && q) && r) && s) && le l u) (le low high) six;
-      product = and_r (((((p && q) && r) && s) && le l u) && le low high) (lt plus_zero (l ⊗ u)) all_tests;
+      at_low = record { first = first; second = second; factor = tested 510 low L hlow c (holds t.1.1.0); order = order };
+      at_high = record { first = first; second = second; factor = tested 510 high L hhigh d (holds t.1.1.1.0); order = order };
+      edges = holds t.1.1.1.1.1.0;
+      product = holds t.1.1.1.1.1.1.0;
     }
+  where
+    holds : {b : Bool} → b ≡ true → T b
+    holds e = subst T (sym e) tt
 
 zero_times : (z : ℤ) → pos 0 *ℤ z ≡ pos 0
 zero_times = all _ λ z z'. simp differences (omega arith)
@@ -133,36 +134,28 @@ module _ (l u low high : Float) (hl : T (fits binary64 l)) (hu : T (fits binary6
   -- from one edge a to another b, where an end times a is no more than it times b
   module _ (a b : Float) (ha : T (fits binary64 a)) (hb : T (fits binary64 b)) (va : InOrder l u a) (vb : InOrder l u b)
       (rises : (t : Bool) → exact (cond t l u) *ℤ exact a ≼ exact (cond t l u) *ℤ exact b) where
-    limit : (t : Bool) → AtMost 510 (cond t l u)
-    limit true = va.first
-    limit false = va.second
-
     no_more : exact (most_at a) ≼ exact (most_at b)
     no_more =
         let t = lt a plus_zero in
         let x = cond t l u in
-        let f = (limit t).is_finite in
+        let most = either_most va.first va.second t in
+        let f = most.is_finite in
         let p = product_up x a in
         let q = product_up x b in
-        let fq = (product_most true x b (limit t) vb.factor).is_finite in
+        let fq = (product_most true x b most vb.factor).is_finite in
         let hq = product_fits true x b f vb.factor.is_finite in
         subst (λ (y : Float). exact y ≼ exact (most_at b)) (most_is a ha va)
         (≼_trans
-        ((le-exact p q (product_most true x a (limit t) va.factor).is_finite fq (product_fits true x a f va.factor.is_finite) hq).0
+        ((le-exact p q (product_most true x a most va.factor).is_finite fq (product_fits true x a f va.factor.is_finite) hq).0
         (rw (sym (product_finite (round_up 1074) x a f va.factor.is_finite), sym (product_finite (round_up 1074) x b f vb.factor.is_finite))
         (up_mono 1074 (exact x *ℤ exact a) (exact x *ℤ exact b) (rises t))))
         ((le-exact q (most_at b) fq (most_finite b hb vb) hq (most_fits b hb vb)).0 (not_above b hb vb t)))
 
   pub edge_limits : {e x : Float} → e ≡ cond (lt l plus_zero) low high → x ≡ cond (lt e plus_zero) l u → AtMost 510 x × AtMost 510 e
-  edge_limits {e} edge outer = (subst (AtMost 510) (sym outer) (end_limit (lt e plus_zero)), subst (AtMost 510) (sym edge) (one_limit (lt l plus_zero)))
-    where
-      end_limit : (t : Bool) → AtMost 510 (cond t l u)
-      end_limit true = w.at_low.first
-      end_limit false = w.at_low.second
-
-      one_limit : (t : Bool) → AtMost 510 (cond t low high)
-      one_limit true = w.at_low.factor
-      one_limit false = w.at_high.factor
+  edge_limits {e} edge outer = (
+    subst (AtMost 510) (sym outer) (either_most w.at_low.first w.at_low.second (lt e plus_zero)),
+    subst (AtMost 510) (sym edge) (either_most w.at_low.factor w.at_high.factor (lt l plus_zero)),
+  )
 
   pub edge_tells : {e x r : Float} → e ≡ cond (lt l plus_zero) low high → x ≡ cond (lt e plus_zero) l u → r ≡ product_up x e
       → r ≡ larger (most_at low) (most_at high)

@@ -22,7 +22,7 @@ use Rattle.cdouble.proofs.RoundedUp.{exact-zero, zero-fits}
 use Rattle.outward_by_errors.specs.Far.{NotMinusZero}
 use Rattle.outward_by_errors.proofs.Inexact.{product_clear}
 use Rattle.outward_by_errors.proofs.Running.{product_fits, product_most, all_four}
-use Rattle.outward_by_errors.proofs.Limits.{Limit, tested}
+use Rattle.outward_by_errors.proofs.Limits.{Limit, tested, either_most}
 
 -- ---- the larger of two in order
 module _ (p q : Float) (f : T (finite p)) (g : T (finite q)) (hp : T (fits binary64 p)) (hq : T (fits binary64 q)) where
@@ -76,11 +76,7 @@ module _ (l u e : Float) (hl : T (fits binary64 l)) (hu : T (fits binary64 u)) (
       (up_mono 1074 (exact e *ℤ exact a) (exact e *ℤ exact b) h)
 
   pub outer_most : {x : Float} → x ≡ cond (lt e plus_zero) l u → AtMost 510 x
-  outer_most is = subst (AtMost 510) (sym is) (go (lt e plus_zero))
-    where
-      go : (t : Bool) → AtMost 510 (cond t l u)
-      go true = w.first
-      go false = w.second
+  outer_most is = subst (AtMost 510) (sym is) (either_most w.first w.second (lt e plus_zero))
 
   pub outer_larger : {x r : Float} → x ≡ cond (lt e plus_zero) l u → r ≡ product_up x e → r ≡ larger (product_up l e) (product_up u e)
   outer_larger is at = at ∙ ap (λ (x : Float). product_up x e) is ∙ go (lt e plus_zero) refl

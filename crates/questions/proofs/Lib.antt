@@ -1,5 +1,4 @@
 pub mod Tests
-pub mod Asked
 pub mod Tallies
 pub mod Marked
 pub mod Searched

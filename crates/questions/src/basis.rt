@@ -19,9 +19,8 @@ fn places_fine(rows: usize, basic: &[u8], places: &[usize]) -> bool
     fine
 }
 
-// Kept: no place that is held lies beyond the rows by now, but were it chosen by the flag alone, the compiler would read it behind a branch.
-
 /// Where a variable is counted: at the place `p` where the flag is set and `p` is a row's, else beyond the places of all rows.
+/// By now no place that is held lies beyond the rows; chosen by the flag alone, it would be read behind a branch.
 fn counted_place(rows: usize, flag: u8, p: usize) -> usize
     ensures { result ≡ counted_place rows flag p }
 {

@@ -3,12 +3,13 @@ use lib.Dec.{ltb}
 use lib.ListN.{length, get_or}
 use Rattle.std.proofs.lemmas.List.{length_push}
 use Rattle.std.proofs.lemmas.Slice.Zip.{zip_turn}
-use Rattle.questions.proofs.Asked.{unasked, one_asked}
+use Rattle.loops.proofs.All.{none_asked, one_asked}
+use Rattle.questions.specs.PlaceQuestions.{place_fine_at}
 use Rattle.questions.proofs.PlaceTests.{or_set}
 use Rattle.questions.proofs.basis.places_fine.Goals as goal
 
 pub loop-flag-init : goal.loop-flag-init
-loop-flag-init c = unasked
+loop-flag-init c = none_asked (place_fine_at c.args.rows c.args.basic.now c.args.places.now) (length c.args.basic.now)
 
 pub loop-flag-preserved : goal.loop-flag-preserved
 loop-flag-preserved c =
@@ -18,4 +19,5 @@ loop-flag-preserved c =
     in
     let v = length c.loop-flag.yielded in
     let test = or_set (get_or c.args.basic.now v 0) (ltb (get_or c.args.places.now v 0) c.args.rows) in
-    rw (length_push c.loop-flag.yielded (c.in-Some.flag, c.in-Some.place), turn.2 0, turn.3 0) (one_asked c.loop-flag.invariant turn.0 test)
+    let fine = place_fine_at c.args.rows c.args.basic.now c.args.places.now in
+    rw (length_push c.loop-flag.yielded (c.in-Some.flag, c.in-Some.place), turn.2 0, turn.3 0) (one_asked fine c.loop-flag.invariant turn.0 test)

@@ -1,8 +1,9 @@
--- `all_plain` meets its contract. Assumes nothing.
+-- The tests of the numbers before the one that is due. Assumes nothing.
 use lib.ListN.{length}
+use Rattle.loops.specs.Places.{all_below}
+use Rattle.loops.proofs.Turns.{Turn}
 use Rattle.questions.specs.Questions.{plain_at}
-use Rattle.questions.proofs.Asked.{Asked}
 use Rattle.questions.proofs.lists.all_plain.Given as goal
 
 abbrev pub invariant-loop-x : goal.invariant-loop-x
-invariant-loop-x l = Asked (plain_at l.xs) (length l.xs) l.x-index l.fine
+invariant-loop-x l = Turn (λ k. all_below k (plain_at l.xs)) (length l.xs) l.x-index l.fine
